@@ -1,0 +1,55 @@
+//! What holds of frames and of every run of two endpoints.
+ghost use Rattle.std.specs.Prelude.{◌≡◌, ℕ, suc, ◌+◌, ◌≤◌, Option, Some, None, true, false, List, [], ◌∷◌, ◌++◌, length, map};
+ghost use Rattle.ra_model.specs.Frames.{IsFrame, IsBytes, IsCut, Begins, HoldsNoFrame, frame_bytes, last_id};
+ghost use Rattle.ra_model.specs.FirstFrame.{first_frame, is_too_long};
+ghost use Rattle.ra_model.specs.declared.frame.Frame.{Frame};
+ghost use Rattle.ra_model.specs.Endpoints.{Endpoint, is_ended, SaidMessage, sent, owed};
+ghost use Rattle.ra_model.specs.Calls.{rewritten};
+ghost use Rattle.ra_model.specs.EndpointStates.{EndpointState, StandsFor, IsOrdered, behind, entry_written};
+ghost use Rattle.ra_model.specs.Events.{run, after};
+ghost use Rattle.ra_model.specs.Worlds.{new_world, peer};
+ghost use Rattle.ra_model.specs.HeardPlaces.{AreHeardPlaces, message_places, deliveries};
+ghost use Rattle.ra_model.specs.Acks.{greatest, run_acks};
+ghost use Rattle.ra_model.specs.Refusals.{take_refusal};
+ghost use Rattle.ra_model.specs.Conversations.{conversation_of, conversed, run_steps, new_conversation};
+ghost use Rattle.ra_base.specs.declared.event.Side.{Side};
+ghost use Rattle.ra_base.specs.declared.event.Event.{Event};
+ghost use Rattle.ra_model.specs.Pairs.{InEveryRun, AreHeardInOrder, AreKeptUntilHeard, AreWrittenHonestly, AreReadInFrames, IsLater};
+
+/// A text of bytes is cut into frames in one way, and piece by piece in the same way.
+pub fn one_cut()
+    ensures front { (f g : Frame) (x y : List ℕ) → IsFrame f → IsFrame g → frame_bytes f ++ x ≡ frame_bytes g ++ y → (f ≡ g) × (x ≡ y) }
+    ensures unique { (text : List ℕ) (fs gs : List Frame) (r s : List ℕ) → IsCut text fs r → IsCut text gs s → (fs ≡ gs) × (r ≡ s) }
+    ensures whole { (text : List ℕ) → IsBytes text → (frames : List Frame) × (rest : List ℕ) × IsCut text frames rest }
+    ensures next_piece { (text piece : List ℕ) (fs gs : List Frame) (r s : List ℕ) → IsCut text fs r → IsCut (r ++ piece) gs s → IsCut (text ++ piece) (fs ++ gs) s }
+    ensures first { (text : List ℕ) (f : Frame) (rest : List ℕ) → IsBytes text → first_frame text ≡ Some (f, rest) → Begins text f rest }
+    ensures none { (text : List ℕ) → first_frame text ≡ None → HoldsNoFrame text }
+    ensures too_long { (text more : List ℕ) → is_too_long text ≡ true → HoldsNoFrame (text ++ more) }
+{}
+
+/// How the queue of what is not acknowledged changes.
+pub fn queue()
+    ensures ordered { (s : EndpointState) (e : Endpoint) → StandsFor s e → s.acknowledged + length s.queue ≡ s.sent → IsOrdered e }
+    ensures said { (e : Endpoint) (m : SaidMessage) → IsOrdered e → owed (record e { said = e.said ++ m ∷ [] }) ≡ owed e ++ record { id = suc (sent e); ack = m.ack; body = m.body; written = m.written } ∷ [] }
+    ensures acknowledged { (e : Endpoint) (upto : ℕ) → IsOrdered e → e.acknowledged ≤ upto → upto ≤ sent e → owed (record e { acknowledged = upto }) ≡ behind upto (owed e) }
+    ensures rewritten { (e : Endpoint) (now : ℕ) → owed (record e { said = rewritten now e }) ≡ map (entry_written now) (owed e) }
+{}
+
+/// The messages that an endpoint hands up stand at the heard places of the frames that come, and these are fixed.
+pub fn hearing()
+    ensures places { (now : ℕ) (frames : List Frame) (e : Endpoint) → is_ended e.phase ≡ false → AreHeardPlaces frames e.received (message_places 0 (deliveries now frames e)) }
+    ensures unique { (frames : List Frame) (last : ℕ) (ps qs : List ℕ) → AreHeardPlaces frames last ps → AreHeardPlaces frames last qs → ps ≡ qs }
+{}
+
+/// Whatever is said, written, read in any pieces, cut and begun anew: each endpoint has handed up the first messages of its peer,
+/// each once and in order, and keeps every message that its peer has not acknowledged.
+pub fn pair()
+    ensures heard { InEveryRun AreHeardInOrder }
+    ensures kept { InEveryRun AreKeptUntilHeard }
+    ensures written { InEveryRun AreWrittenHonestly }
+    ensures read { InEveryRun AreReadInFrames }
+    ensures never_too_long { (base : ℕ) (events : List Event) (side : Side) → base ≤ last_id → take_refusal (peer side (run events (new_world base))).endpoint ≡ None }
+    ensures acknowledged { (base : ℕ) (events : List Event) (side : Side) → (peer side (run events (new_world base))).endpoint.acknowledged ≡ greatest base (run_acks side events (new_world base)) }
+    ensures conversation { (base : ℕ) (events : List Event) → base ≤ last_id → conversation_of (run events (new_world base)) ≡ conversed (run_steps events (new_world base)) new_conversation }
+    ensures rising { (base : ℕ) (events later : List Event) (side : Side) → IsLater (peer side (run events (new_world base))) (peer side (run (events ++ later) (new_world base))) }
+{}
