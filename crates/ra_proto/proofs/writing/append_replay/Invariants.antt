@@ -1,0 +1,7 @@
+use Rattle.std.proofs.Common.{◌≡◌, ◌++◌, take, map}
+use Rattle.ra_model.specs.Frames.{joined}
+use Rattle.ra_model.specs.Endpoints.{entry_frame}
+use Rattle.ra_proto.proofs.writing.append_replay.Given as goal
+
+abbrev pub invariant-loop-entry : goal.invariant-loop-entry
+invariant-loop-entry l = l.out.items ≡ l.fn.out.items ++ joined (map entry_frame (take l.entry-index l.queue))
