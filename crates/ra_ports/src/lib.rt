@@ -1,0 +1,21 @@
+//! The outside as traits: a source of bytes and a sink of bytes, with counts of their faults, their memory forms and their
+//! adapters over std's readers and writers.
+//!
+//! A trait tells what it holds where it can, and clauses on content hold where it is told. Nothing of the protocol is here.
+#![tactic(auto)]
+
+pub mod mem_sink;
+pub mod mem_source;
+pub mod sink;
+pub mod source;
+#[cfg(test)]
+mod tests;
+
+pub use mem_sink::MemSink;
+pub use mem_source::MemSource;
+pub use sink::{Sink, StdSink, write_all};
+pub use source::{Source, StdSource};
+
+/// A call of the outside failed, and its count of faults rose.
+#[derive(Clone, Copy, Debug, PartialEq, Eq)]
+pub struct Failed;
