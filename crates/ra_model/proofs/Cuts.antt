@@ -34,7 +34,7 @@ cut_more text piece fs gs r s a b = record {
   partial = b.partial;
 }
 
-bytes_right : (xs ys : List ℕ) → IsBytes (xs ++ ys) → IsBytes ys
+pub bytes_right : (xs ys : List ℕ) → IsBytes (xs ++ ys) → IsBytes ys
 bytes_right [] ys h = h
 bytes_right (x ∷ xs) ys h = bytes_right xs ys (λ i. h (suc i))
 

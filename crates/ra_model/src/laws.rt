@@ -1,7 +1,8 @@
 //! What holds of frames and of every run of two endpoints.
-ghost use Rattle.std.specs.Prelude.{◌≡◌, ℕ, suc, ◌+◌, ◌≤◌, Option, Some, None, true, false, List, [], ◌∷◌, ◌++◌, length, map};
+ghost use Rattle.std.specs.Prelude.{◌≡◌, ℕ, suc, ◌+◌, ◌≤◌, Option, Some, None, true, false, List, [], ◌∷◌, ◌++◌, length, map, drop};
 ghost use Rattle.ra_model.specs.Frames.{IsFrame, IsBytes, IsCut, Begins, HoldsNoFrame, frame_bytes, last_id};
 ghost use Rattle.ra_model.specs.FirstFrame.{first_frame, is_too_long};
+ghost use Rattle.ra_model.specs.Cutting.{frames_of, rest_of, IsCarry};
 ghost use Rattle.ra_model.specs.declared.frame.Frame.{Frame};
 ghost use Rattle.ra_model.specs.Endpoints.{Endpoint, is_ended, SaidMessage, sent, owed};
 ghost use Rattle.ra_model.specs.Calls.{rewritten};
@@ -25,6 +26,24 @@ pub fn one_cut()
     ensures first { (text : List ℕ) (f : Frame) (rest : List ℕ) → IsBytes text → first_frame text ≡ Some (f, rest) → Begins text f rest }
     ensures none { (text : List ℕ) → first_frame text ≡ None → HoldsNoFrame text }
     ensures too_long { (text more : List ℕ) → is_too_long text ≡ true → HoldsNoFrame (text ++ more) }
+{}
+
+/// The cut of a text is computed frame by frame.
+pub fn cutting()
+    ensures is_cut { (text : List ℕ) → IsBytes text → IsCut text (frames_of text) (rest_of text) }
+    ensures step { (text : List ℕ) (f : Frame) (rest : List ℕ) → first_frame text ≡ Some (f, rest) → (frames_of text ≡ f ∷ frames_of rest) × (rest_of text ≡ rest_of rest) }
+    ensures none { (text : List ℕ) → first_frame text ≡ None → (frames_of text ≡ []) × (rest_of text ≡ text) }
+    ensures found { (text : List ℕ) (f : Frame) (rest : List ℕ) → first_frame text ≡ Some (f, rest) → (length (frame_bytes f) ≤ length text) × (rest ≡ drop (length (frame_bytes f)) text) }
+    ensures later { (text more : List ℕ) (f : Frame) (rest : List ℕ) → first_frame text ≡ Some (f, rest) → first_frame (text ++ more) ≡ Some (f, rest ++ more) }
+{}
+
+/// What a reader has read of a text, and has not, over pieces.
+pub fn carry()
+    ensures nothing { (text : List ℕ) → first_frame text ≡ None → is_too_long text ≡ false → IsCarry text [] text }
+    ensures step { (text : List ℕ) (f : Frame) (rest : List ℕ) (frames : List Frame) (left : List ℕ) → first_frame text ≡ Some (f, rest) → IsCarry rest frames left → IsCarry text (f ∷ frames) left }
+    ensures more { (text piece : List ℕ) (frames more : List Frame) (rest left : List ℕ) → IsCarry text frames rest → IsCarry (rest ++ piece) more left → IsCarry (text ++ piece) (frames ++ more) left }
+    ensures is { (text : List ℕ) (frames : List Frame) (rest : List ℕ) → IsCarry text frames rest → (frames_of text ≡ frames) × (rest_of text ≡ rest) }
+    ensures cut { (text : List ℕ) (frames : List Frame) (rest : List ℕ) → IsBytes text → IsCarry text frames rest → IsCut text frames rest }
 {}
 
 /// How the queue of what is not acknowledged changes.
