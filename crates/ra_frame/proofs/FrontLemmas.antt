@@ -84,3 +84,10 @@ within buffer start n header wide inside h is =
     let there : header_len (is_wide unread) + n ≤ length unread = whole_there unread n h.0 in
     let same : header ≡ header_len (is_wide unread) = is ∙ ap header_len h.1 in
     omega (arith, length-take (length buffer - start) (drop start buffer), length-drop start buffer)
+
+-- the three cases of a front exclude each other
+pub whole_not_partial : (text : List ℕ) (n : ℕ) → IsWhole text n → IsPartial text → ⊥
+whole_not_partial text n w partial = let two = sym (first_is text n w) ∙ partial.no_frame in cc
+
+pub too_long_not_partial : (text : List ℕ) (n : ℕ) → IsTooLong text n → IsPartial text → ⊥
+too_long_not_partial text n long partial = let two = sym long.too_long ∙ partial.not_too_long in cc

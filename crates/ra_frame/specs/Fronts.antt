@@ -1,7 +1,7 @@
 -- What stands at the front of unread bytes.
 use Rattle.std.specs.Prelude.{◌≡◌, ℕ, true, false, List, None}
-use Rattle.ra_frame.specs.declared.reader.Front.{Front}
-use Rattle.ra_frame.specs.declared.reader.Front.TheVariants.{Partial, TooLong, Whole}
+use Rattle.ra_frame.specs.declared.front.Front.{Front}
+use Rattle.ra_frame.specs.declared.front.Front.TheVariants.{Partial, TooLong, Whole}
 use Rattle.ra_model.specs.FirstFrame.{is_wide, stated, has_frame, is_too_long, first_frame}
 
 -- neither a whole frame nor a header that states too long a body

@@ -2,7 +2,7 @@ use Rattle.std.proofs.Common.{◌≡◌, ℕ, List, ap, sym, ◌∙◌, arith}
 use Rattle.std.specs.Int.{w32}
 use Rattle.ra_model.specs.FirstFrame.{is_wide, header_len, len_place, number_at, stated}
 use Rattle.ra_frame.proofs.FrontLemmas as fronts
-use Rattle.ra_frame.proofs.reader.front_of.Goals as goal
+use Rattle.ra_frame.proofs.front.front_of.Goals as goal
 
 pub returns-then-is_empty : goal.returns-then-is_empty
 returns-then-is_empty c = fronts.partial_empty c.args.unread.now (sym c.is_empty.ensures ∙ c.if-is_empty.true)
