@@ -1,13 +1,13 @@
 -- What stands at the front, by its header.
-use Rattle.std.proofs.Common.{◌≡◌, ℕ, ◌+◌, ◌<◌, ◌≤◌, Bool, true, false, leb, ltb, eqb, suc, ◌∷◌, Some, None, List, [], length, take, drop, get_or, ◌-◌, refl, ap, sym, ◌∙◌, arith}
+use Rattle.std.proofs.Common.{◌≡◌, ℕ, ◌+◌, ◌<◌, ◌≤◌, Bool, true, false, leb, ltb, eqb, suc, ◌∷◌, Some, None, List, [], length, take, drop, get_or, ◌-◌, ◌++◌, refl, ap, sym, ◌∙◌, arith}
 use Rattle.std.proofs.lemmas.List.{length-take, length-drop}
 use Rattle.std.proofs.lemmas.Bool.{le-leb, lt-leb, lt-ltb, le-ltb, eqb-true, leb-true, and_from, and_parts, and_left, and_right, cond-true, cond-false}
 use Rattle.ra_model.specs.declared.frame.Frame.{Frame}
 use Rattle.ra_model.specs.Frames.{HoldsNoFrame, IsBytes, Begins, body_limit, number_width, wide_mark}
 use Rattle.ra_model.specs.FirstFrame.{is_wide, header_len, stated, has_frame, split_frame, is_too_long, first_frame, number_at, ack_place, len_place}
-use Rattle.ra_model.proofs.Framing.{first_frame-none}
+use Rattle.ra_model.proofs.Framing.{first_frame-none, header_more}
 use Rattle.ra_model.proofs.Reading.{first_frame-some}
-use Rattle.ra_model.proofs.Cuts.{found-not_too_long}
+use Rattle.ra_model.proofs.Cuts.{found-not_too_long, too_long-more}
 use Rattle.std.specs.Int.{byte_len}
 use Rattle.ra_frame.specs.Fronts.{IsPartial, IsTooLong, IsWhole}
 
@@ -101,3 +101,10 @@ whole_held text n w none = let front = whole_begins text n _ _ w (first_is text 
 
 pub whole_not_too_long : (text : List ℕ) (n m : ℕ) → IsWhole text n → IsTooLong text m → ⊥
 whole_not_too_long text n m w long = let two = sym (found-not_too_long text _ (first_is text n w)) ∙ long.too_long in cc
+
+-- whatever comes behind it
+pub too_long_more : (text more : List ℕ) (n : ℕ) → IsTooLong text n → IsTooLong (text ++ more) n
+unfolding is_too_long
+too_long_more text more n long =
+    let there : header_len (is_wide text) ≤ length text = leb-true (header_len (is_wide text)) (length text) (and_parts _ _ long.too_long).0 in
+    record { too_long = too_long-more text more long.too_long; stated = (header_more text more there).1 ∙ long.stated }
