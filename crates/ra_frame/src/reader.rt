@@ -1,164 +1,57 @@
-ghost use Rattle.std.specs.Prelude.{◌≡◌, ◌<◌, ◌≤◌, ◌+◌, ◌-◌, ◌++◌, nat_le, ℕ, List, [], length, drop, Some, None, OnOk, OnErr, IfOk, IfErr, MatchOption};
-ghost use Rattle.ra_model.specs.Frames.{number_width, wide_mark};
-ghost use Rattle.ra_model.specs.FirstFrame.{number_at, header_len, ack_place, len_place, is_wide, first_frame};
-ghost use Rattle.std.specs.Int.{w32, w64, byte_len};
-ghost use Rattle.ra_frame.specs.Fronts.{IsFront, IsPartial, IsTooLong};
+//! The reader: bytes come in any pieces, and frames go out.
+//!
+//! It copies each body once, keeps the bytes of a frame that is not whole yet, and reserves nothing for what a header only states.
+ghost use Rattle.std.specs.Prelude.{◌≡◌, ◌≤◌, ◌++◌, ℕ, List, [], length, drop, Ok, Err, Some, None, false, OnOk, OnErr, IfOk, IfErr, MatchOption, IfSome};
+ghost use Rattle.ra_model.specs.Frames.{Begins, HoldsNoFrame};
+ghost use Rattle.ra_model.specs.FirstFrame.{first_frame, is_too_long};
+ghost use Rattle.ra_frame.specs.Fronts.{IsPartial, IsTooLong};
+ghost use Rattle.ra_frame.specs.declared.reader.FrameFault.TheVariants.{NoMemory as OutOfMemory};
 
-use ra_base::Message;
+use crate::front::{Front, frame_at, front_of, header_len};
+use ra_base::{Message, NoMemory};
 use ra_model::Frame;
 use std::alloc::{AllocError, Global};
+use std::error::Error;
+use std::fmt;
 use std::marker::Model;
-
-/// What stands at the front of unread bytes.
-#[derive(Clone, Copy, Debug, PartialEq, Eq)]
-pub enum Front {
-    /// Less than a whole frame.
-    Partial,
-    /// A header that states too long a body.
-    TooLong { stated: u32 },
-    /// A frame with a body of that many bytes.
-    Whole { body: usize },
-}
-
-/// The number at a place.
-#[tactic(auto, unfolding(ra_model::specs::FirstFrame::number_at))]
-fn read_u32(bytes: &[u8], at: usize) -> u32
-    requires { at + 4 ≤ length bytes.now }
-    ensures { result ≡ number_at w32 at bytes.now }
-{
-    let b = &bytes[at..at + 4];
-    u32::from_be_bytes([b[0], b[1], b[2], b[3]])
-}
-
-#[tactic(auto, unfolding(ra_model::specs::FirstFrame::number_at))]
-fn read_u64(bytes: &[u8], at: usize) -> u64
-    requires { at + 8 ≤ length bytes.now }
-    ensures { result ≡ number_at w64 at bytes.now }
-{
-    let b = &bytes[at..at + 8];
-    u64::from_be_bytes([b[0], b[1], b[2], b[3], b[4], b[5], b[6], b[7]])
-}
-
-/// An id or an ack.
-fn number(bytes: &[u8], wide: bool, at: usize) -> u64
-    requires { at + byte_len (number_width wide) ≤ length bytes.now }
-    ensures { result ≡ number_at (number_width wide) at bytes.now }
-{
-    if wide {
-        read_u64(bytes, at)
-    } else {
-        read_u32(bytes, at) as u64
-    }
-}
-
-fn is_wide(bytes: &[u8]) -> bool
-    requires { 0 < length bytes.now }
-    ensures { result ≡ is_wide bytes.now }
-{
-    bytes[0] >= 128
-}
-
-fn header_len(wide: bool) -> usize
-    ensures len { result ≡ header_len wide }
-    ensures bound { result ≤ 21 }
-{
-    if wide { 21 } else { 13 }
-}
-
-fn ack_place(wide: bool) -> usize
-    ensures { result ≡ ack_place wide }
-{
-    if wide { 9 } else { 5 }
-}
-
-fn len_place(wide: bool) -> usize
-    ensures { result ≡ len_place wide }
-{
-    if wide { 17 } else { 9 }
-}
-
-/// What stands at the front.
-fn front_of(unread: &[u8]) -> Front
-    ensures { IsFront unread.now result }
-{
-    if unread.is_empty() {
-        return Front::Partial;
-    }
-    let wide = is_wide(unread);
-    let header = header_len(wide);
-    if unread.len() < header {
-        return Front::Partial;
-    }
-    let stated = read_u32(unread, len_place(wide));
-    let body = stated as usize;
-    if body > BODY_LIMIT {
-        return Front::TooLong { stated };
-    }
-    if unread.len() - header < body {
-        return Front::Partial;
-    }
-    Front::Whole { body }
-}
-
-/// The type that a first byte states.
-fn kind_of(first: u8, wide: bool) -> u8
-    requires { wide ≡ nat_le 128 first }
-    ensures { result ≡ first - wide_mark wide }
-{
-    if wide { first - 128 } else { first }
-}
-
-/// The frame at the front.
-fn frame_at(alloc: Global, unread: &[u8], body: usize) -> Result<Frame, AllocError>
-    requires whole { IsFront unread.now (Front.Whole body) }
-    ensures frame { IfOk result (λ f. first_frame unread.now ≡ Some (f, drop (header_len f.wide + body) unread.now)) }
-    ensures wide { IfOk result (λ f. f.wide ≡ is_wide unread.now) }
-{
-    let wide = is_wide(unread);
-    let header = header_len(wide);
-    let kind = kind_of(unread[0], wide);
-    let id = number(unread, wide, 1);
-    let ack = number(unread, wide, ack_place(wide));
-    let body = Message::from_vec(Vec::from_slice(alloc, &unread[header..header + body])?);
-    Ok(Frame {
-        kind,
-        wide,
-        id,
-        ack,
-        body,
-    })
-}
-
-/// The most bytes of a body.
-pub const BODY_LIMIT: usize = 268_435_456;
 
 /// Why no frame is read.
 #[derive(Clone, Copy, Debug, PartialEq, Eq)]
 pub enum FrameFault {
-    /// A header states a body above the limit.
+    /// A header states a body of that many bytes, which is above the limit.
     TooLong { stated: u32 },
+    /// No memory for the body.
     NoMemory,
 }
 
-/// The frame at the front, and how many bytes it has.
-fn frame_of(alloc: Global, unread: &[u8]) -> Result<Option<(Frame, usize)>, FrameFault>
-    ensures found { IfOk result (λ found. MatchOption found (IsPartial unread.now) (λ p. (first_frame unread.now ≡ Some (p.0, drop p.1 unread.now)) × (p.1 ≤ length unread.now))) }
-    ensures too_long { IfErr result (λ fault. (n : ℕ) → fault ≡ FrameFault.TooLong n → IsTooLong unread.now n) }
-{
-    match front_of(unread) {
-        Front::Partial => Ok(None),
-        Front::TooLong { stated } => Err(FrameFault::TooLong { stated }),
-        Front::Whole { body } => {
-            let Ok(frame) = frame_at(alloc, unread, body) else {
-                return Err(FrameFault::NoMemory);
-            };
-            let len = header_len(frame.wide) + body;
-            Ok(Some((frame, len)))
+impl fmt::Display for FrameFault {
+    fn fmt<W: fmt::Write>(&self, f: &mut fmt::Formatter<W>) -> fmt::Result {
+        match self {
+            FrameFault::TooLong { stated } => write!(f, "a body of {stated} bytes"),
+            FrameFault::NoMemory => f.write_str("want of memory"),
         }
     }
 }
 
-/// Cuts bytes that come in any pieces into frames. It is seen as its unread bytes.
+impl Error for FrameFault {}
+
+impl From<AllocError> for FrameFault {
+    ghost from_gives = { λ _ fault. fault ≡ OutOfMemory };
+
+    fn from(_: AllocError) -> Self {
+        FrameFault::NoMemory
+    }
+}
+
+impl From<NoMemory> for FrameFault {
+    ghost from_gives = { λ _ fault. fault ≡ OutOfMemory };
+
+    fn from(_: NoMemory) -> Self {
+        FrameFault::NoMemory
+    }
+}
+
+/// Cuts bytes that come in any pieces into frames. A contract sees it as its unread bytes.
 #[derive(Drop)]
 pub struct FrameReader {
     buffer: Vec<u8>,
@@ -174,6 +67,7 @@ impl Model for FrameReader {
 }
 
 impl FrameReader {
+    /// A reader with no bytes. It takes no memory.
     pub fn new(alloc: Global) -> FrameReader
         ensures { result ≡ [] }
     {
@@ -183,14 +77,27 @@ impl FrameReader {
         }
     }
 
-    /// Takes the next piece.
-    pub fn feed(&mut self, piece: &[u8]) -> Result<(), AllocError>
+    /// Takes the next piece, or nothing where there is no memory.
+    pub fn feed(&mut self, piece: &[u8]) -> Result<(), NoMemory>
         ensures ok { OnOk result (self.new ≡ self.old ++ piece.now) }
         ensures err { OnErr result (self.new ≡ self.old) }
     {
         self.compact();
         self.buffer.extend_from_slice(piece)?;
         Ok(())
+    }
+
+    /// Moves the unread bytes to the front of the buffer, where they are no more than the bytes that were read.
+    /// So no more bytes are moved than were read, in however many pieces the bytes come.
+    fn compact(&mut self)
+        ensures { self.new ≡ self.old }
+    {
+        let rest = self.buffer.len() - self.start;
+        if rest <= self.start {
+            self.buffer.copy_within(self.start.., 0);
+            self.buffer.truncate(rest);
+            self.start = 0;
+        }
     }
 
     /// Discards what is unread.
@@ -201,51 +108,93 @@ impl FrameReader {
         self.start = 0;
     }
 
-    /// Moves the unread bytes to the front.
-    fn compact(&mut self)
-        ensures { self.new ≡ self.old }
-    {
-        if self.start > 0 {
-            let rest = self.buffer.len() - self.start;
-            self.buffer.copy_within(self.start.., 0);
-            self.buffer.truncate(rest);
-            self.start = 0;
-        }
-    }
-
-    /// The next frame, where a whole one is there. A fault changes nothing.
+    /// The next frame, where a whole one is there. A fault leaves the unread bytes.
+    ///
+    /// `TooLong` stays until the unread bytes are discarded, whatever is fed.
     pub fn next(&mut self, alloc: Global) -> Result<Option<Frame>, FrameFault>
         ensures found { IfOk result (λ found. MatchOption found (IsPartial self.old × (self.new ≡ self.old)) (λ f. first_frame self.old ≡ Some (f, self.new))) }
+        ensures begins { IfOk result (λ found. IfSome found (λ f. Begins self.old f self.new)) }
+        ensures none { HoldsNoFrame self.old → is_too_long self.old ≡ false → result ≡ Ok None }
         ensures too_long { IfErr result (λ fault. (n : ℕ) → fault ≡ FrameFault.TooLong n → IsTooLong self.old n) }
+        ensures stands { (n : ℕ) → IsTooLong self.old n → result ≡ Err (FrameFault.TooLong n) }
         ensures err { OnErr result (self.new ≡ self.old) }
     {
-        let unread = &self.buffer[self.start..];
-        match front_of(unread) {
-            Front::Partial => Ok(None),
-            Front::TooLong { stated } => Err(FrameFault::TooLong { stated }),
-            Front::Whole { body } => {
-                let Ok(frame) = frame_at(alloc, unread, body) else {
-                    return Err(FrameFault::NoMemory);
-                };
-                self.start += header_len(frame.wide) + body;
-                Ok(Some(frame))
-            }
-        }
+        let Some((frame, len)) = self.peek(alloc)? else {
+            return Ok(None);
+        };
+        self.skip(len);
+        Ok(Some(frame))
     }
 
     /// The next frame, which stays unread, and how many bytes it has.
     pub fn peek(&self, alloc: Global) -> Result<Option<(Frame, usize)>, FrameFault>
         ensures found { IfOk result (λ found. MatchOption found (IsPartial self.now) (λ p. (first_frame self.now ≡ Some (p.0, drop p.1 self.now)) × (p.1 ≤ length self.now))) }
+        ensures begins { IfOk result (λ found. IfSome found (λ p. Begins self.now p.0 (drop p.1 self.now))) }
+        ensures none { HoldsNoFrame self.now → is_too_long self.now ≡ false → result ≡ Ok None }
         ensures too_long { IfErr result (λ fault. (n : ℕ) → fault ≡ FrameFault.TooLong n → IsTooLong self.now n) }
+        ensures stands { (n : ℕ) → IsTooLong self.now n → result ≡ Err (FrameFault.TooLong n) }
     {
-        frame_of(alloc, &self.buffer[self.start..])
+        let unread = self.unread();
+        match front_of(unread) {
+            Front::Partial => Ok(None),
+            Front::TooLong { stated } => Err(FrameFault::TooLong { stated }),
+            Front::Whole { body } => {
+                let frame = frame_at(alloc, unread, body)?;
+                let len = header_len(frame.wide) + body;
+                Ok(Some((frame, len)))
+            }
+        }
     }
 
-    /// The first bytes are read.
+    /// The first `len` bytes count as read.
+    #[inline]
     pub fn skip(&mut self, len: usize)
         requires { len ≤ length self.old }
         ensures { self.new ≡ drop len self.old }
     {
         self.start += len;
+    }
+
+    /// Whether `next` has a frame or a `TooLong` to give.
+    pub fn ready(&self) -> bool
+        ensures partial { result ≡ false → IsPartial self.now }
+        ensures none { HoldsNoFrame self.now → is_too_long self.now ≡ false → result ≡ false }
+    {
+        match front_of(self.unread()) {
+            Front::Partial => false,
+            Front::TooLong { stated: _ } => true,
+            Front::Whole { body: _ } => true,
+        }
+    }
+
+    /// The unread bytes.
+    #[inline]
+    pub fn unread(&self) -> &[u8]
+        ensures { result.now ≡ self.now }
+    {
+        &self.buffer[self.start..]
+    }
+
+    /// How many bytes are unread.
+    #[inline]
+    pub fn rest_len(&self) -> u64
+        ensures { result ≡ length self.now }
+    {
+        self.unread().len() as u64
+    }
+
+    /// A copy of the unread bytes.
+    pub fn copy_rest(&self, alloc: Global) -> Result<Message, NoMemory>
+        ensures { IfOk result (λ rest. rest ≡ self.now) }
+    {
+        Message::copy(alloc, self.unread())
+    }
+
+    /// A reader with the same unread bytes.
+    pub fn copy(&self, alloc: Global) -> Result<FrameReader, NoMemory>
+        ensures { IfOk result (λ reader. reader ≡ self.now) }
+    {
+        let buffer = Vec::from_slice(alloc, self.unread())?;
+        Ok(FrameReader { buffer, start: 0 })
     }
 }

@@ -1,10 +1,11 @@
+//! The writer: the bytes of a frame.
 ghost use Rattle.std.specs.Prelude.{◌≡◌, ◌<◌, ◌≤◌, ◌^◌, ◌++◌, ◌||◌, nat_le, length, true, false, OnOk, OnErr};
 ghost use Rattle.ra_model.specs.declared.frame.Frame.{Frame};
 ghost use Rattle.ra_model.specs.Frames.{IsFrame, frame_bytes, body_limit};
 ghost use Rattle.ra_model.specs.FrameKinds.{written_frame};
 
+use ra_base::NoMemory;
 use ra_model::Frame;
-use std::alloc::AllocError;
 
 /// The 13 bytes before the body.
 fn short_header(kind: u8, id: u32, ack: u32, len: u32) -> [u8; 13]
@@ -77,8 +78,8 @@ pub fn header_wide(frame: &Frame) -> [u8; 21]
     )
 }
 
-/// Adds the bytes of a frame, or nothing.
-pub fn append(frame: &Frame, to: &mut Vec<u8>) -> Result<(), AllocError>
+/// Adds the bytes of a frame, or nothing where there is no memory.
+pub fn append(frame: &Frame, to: &mut Vec<u8>) -> Result<(), NoMemory>
     requires fits { IsFrame frame.now }
     ensures ok { OnOk result (to.new.items ≡ to.old.items ++ frame_bytes frame.now) }
     ensures err { OnErr result (to.new.items ≡ to.old.items) }
@@ -100,14 +101,15 @@ fn needs_wide(id: u64, ack: u64) -> bool
     id >= 4_294_967_296 || ack >= 4_294_967_296
 }
 
-/// Adds the bytes of a frame as an endpoint writes it, or nothing.
+/// Adds the bytes of a frame as an endpoint writes it, wide exactly where its id or its ack is at least 2^32, or nothing where
+/// there is no memory.
 pub fn append_written(
     to: &mut Vec<u8>,
     kind: u8,
     id: u64,
     ack: u64,
     body: &[u8],
-) -> Result<(), AllocError>
+) -> Result<(), NoMemory>
     requires kind { kind < 128 }
     requires body { length body.now ≤ body_limit }
     ensures ok { OnOk result (to.new.items ≡ to.old.items ++ frame_bytes (written_frame kind id ack body.now)) }

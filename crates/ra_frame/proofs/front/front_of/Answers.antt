@@ -2,7 +2,7 @@ use Rattle.std.proofs.Common.{◌≡◌, ℕ, List, ap, sym, ◌∙◌, arith}
 use Rattle.std.specs.Int.{w32}
 use Rattle.ra_model.specs.FirstFrame.{is_wide, header_len, len_place, number_at, stated}
 use Rattle.ra_frame.proofs.FrontLemmas as fronts
-use Rattle.ra_frame.proofs.reader.front_of.Goals as goal
+use Rattle.ra_frame.proofs.front.front_of.Goals as goal
 
 pub returns-then-is_empty : goal.returns-then-is_empty
 returns-then-is_empty c = fronts.partial_empty c.args.unread.now (sym c.is_empty.ensures ∙ c.if-is_empty.true)
@@ -37,4 +37,4 @@ returns c =
     let text : List ℕ = c.args.unread.now in
     let header : c.header_len-header.result ≡ header_len (is_wide text) = c.header_len-header.ensures.len ∙ ap header_len c.is_wide-wide.ensures in
     let is : stated text ≡ c.read_u32-stated.result = sym (c.read_u32-stated.ensures ∙ ap (λ (p : ℕ). number_at w32 p text) (c.len_place.ensures ∙ ap len_place c.is_wide-wide.ensures)) in
-    fronts.whole text c.read_u32-stated.result is (omega arith) (omega arith)
+    fronts.whole text c.read_u32-stated.result (λ k. omega (arith, c.type_inv.unread k)) is (omega arith) (omega arith)

@@ -3,7 +3,7 @@ use Rattle.std.specs.Int.{byte_len}
 use Rattle.ra_model.specs.Frames.{number_width, body_limit}
 use Rattle.ra_model.specs.FirstFrame.{is_wide, header_len, ack_place, number_at}
 use Rattle.ra_frame.proofs.FrontLemmas as fronts
-use Rattle.ra_frame.proofs.reader.frame_at.Goals as goal
+use Rattle.ra_frame.proofs.front.frame_at.Goals as goal
 
 pub is_wide-wide-requires : goal.is_wide-wide-requires
 is_wide-wide-requires c = fronts.whole_some c.args.unread.now c.args.body c.requires.whole
@@ -30,8 +30,8 @@ overflow_add-header c =
     let header : c.header_len-header.result ≤ 21 = c.header_len-header.ensures.bound in
     omega arith
 
-pub slice_bounds-from_slice-end : goal.slice_bounds-from_slice-end
-slice_bounds-from_slice-end c =
+pub slice_bounds-copy-end : goal.slice_bounds-copy-end
+slice_bounds-copy-end c =
     let there : header_len (is_wide c.args.unread.now) + c.args.body ≤ length c.args.unread.now = fronts.whole_there c.args.unread.now c.args.body c.requires.whole in
     let same : c.header_len-header.result ≡ header_len (is_wide c.args.unread.now) = c.header_len-header.ensures.len ∙ ap header_len c.is_wide-wide.ensures in
     let within : c.header_len-header.result + c.args.body ≤ length c.args.unread.now = omega arith in
@@ -42,7 +42,7 @@ returns-clause-frame c =
     let text : List ℕ = c.args.unread.now in
     let header : c.header_len-header.result ≡ header_len c.is_wide-wide.result = c.header_len-header.ensures.len in
     let size : (c.header_len-header.result + c.args.body) - c.header_len-header.result ≡ c.args.body = omega arith in
-    let body : c.from_vec-body.result ≡ take c.args.body (drop (header_len c.is_wide-wide.result) text) =
-    c.from_vec-body.ensures ∙ c.in_ok-from_slice.ensures.items ∙ ap (λ (n : ℕ). take n (drop c.header_len-header.result text)) size ∙ ap (λ (n : ℕ). take c.args.body (drop n text)) header in
-    fronts.frame_read text c.args.body (record { kind = c.kind_of-kind.result; wide = c.is_wide-wide.result; id = c.number-id.result; ack = c.number-ack.result; body = c.from_vec-body.result })
+    let body : c.in_ok-body.body ≡ take c.args.body (drop (header_len c.is_wide-wide.result) text) =
+    c.in_ok-body.ensures ∙ ap (λ (n : ℕ). take n (drop c.header_len-header.result text)) size ∙ ap (λ (n : ℕ). take c.args.body (drop n text)) header in
+    fronts.frame_read text c.args.body (record { kind = c.kind_of-kind.result; wide = c.is_wide-wide.result; id = c.number-id.result; ack = c.number-ack.result; body = c.in_ok-body.body })
     c.requires.whole c.is_wide-wide.ensures c.kind_of-kind.ensures c.number-id.ensures (c.number-ack.ensures ∙ ap (λ (p : ℕ). number_at (number_width c.is_wide-wide.result) p text) c.ack_place.ensures) body
