@@ -5,6 +5,7 @@ pub mod effect;
 pub mod fault;
 pub mod frame;
 pub mod laws;
+pub mod moves;
 pub mod session;
 pub mod timing;
 
