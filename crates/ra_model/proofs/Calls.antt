@@ -188,7 +188,7 @@ unfolding say written_frame
 outgoing_say to n e links body now h =
     cond_both (can_say body e) _ _ (λ (x : Endpoint). EndpointWrote to n x links)
     (λ yes.
-    let limits = and_parts _ _ (and_parts _ _ yes).1 in
+    let limits : (leb (length body) body_limit ≡ true) × (ltb (sent e) last_id ≡ true) = and_parts _ _ (and_parts _ _ yes).1 in
     let fits : length body ≤ body_limit = leb-true (length body) body_limit limits.0 in
     let room : e.base + length e.said < last_id = ltb-true (sent e) last_id limits.1 in
     let m : SaidMessage = record { body = body; ack = e.received; written = cond (is_up e.phase) (Some (moment now e)) None } in

@@ -1,6 +1,6 @@
 //! What holds of frames, of the queue of an endpoint, of every view of two endpoints and of every run of them.
 //! Each function has an empty body: its clauses are what is proved.
-ghost use Rattle.std.specs.Prelude.{◌≡◌, ℕ, suc, ◌+◌, ◌≤◌, Bool, Some, None, true, false, List, [], ◌∷◌, ◌++◌, length, map, drop};
+ghost use Rattle.std.specs.Prelude.{◌≡◌, ℕ, suc, ◌+◌, ◌*◌, ◌<◌, ◌≤◌, Bool, Some, None, true, false, List, [], ◌∷◌, ◌++◌, length, map, drop};
 ghost use Rattle.ra_model.specs.Frames.{IsFrame, IsBytes, IsCut, Begins, HoldsNoFrame, frame_bytes, last_id};
 ghost use Rattle.ra_model.specs.FirstFrame.{first_frame, is_too_long};
 ghost use Rattle.ra_model.specs.Cutting.{frames_of, rest_of, IsCarry};
@@ -42,6 +42,12 @@ pub fn cutting()
     ensures none { (text : List ℕ) → first_frame text ≡ None → (frames_of text ≡ []) × (rest_of text ≡ text) }
     ensures found { (text : List ℕ) (f : Frame) (rest : List ℕ) → first_frame text ≡ Some (f, rest) → (length (frame_bytes f) ≤ length text) × (rest ≡ drop (length (frame_bytes f)) text) }
     ensures later { (text more : List ℕ) (f : Frame) (rest : List ℕ) → first_frame text ≡ Some (f, rest) → first_frame (text ++ more) ≡ Some (f, rest ++ more) }
+{}
+
+/// How many frames a text has. Where none was whole, a piece makes at most one more than its bytes have room for.
+pub fn few_frames()
+    ensures all { (text : List ℕ) → 13 * length (frames_of text) ≤ length text }
+    ensures more { (text piece : List ℕ) (f : Frame) (frames : List Frame) → first_frame text ≡ None → frames_of (text ++ piece) ≡ f ∷ frames → 13 * length frames < length piece }
 {}
 
 /// What a reader has read of a text, and has not, over pieces.
