@@ -14,12 +14,14 @@ use Rattle.ra_base.specs.declared.event.Count.{Count}
 use Rattle.ra_base.specs.declared.event.Side.TheVariants.{A, B}
 use Rattle.ra_base.specs.declared.event.Count.TheVariants.{All, Exact, Most}
 use Rattle.ra_model.specs.Pairs.{messages}
+use Rattle.ra_model.proofs.Away.{away_begin, away_feed, away_wrote}
 use Rattle.ra_model.proofs.Numbers.{at_number_within, put_cases}
-use Rattle.ra_model.proofs.Outgoing.{Outgoing, outgoing_linked, outgoing_elsewhere, outgoing_wrote, outgoing_vanish}
-use Rattle.ra_model.proofs.Incoming.{Incoming, incoming_linked, incoming_elsewhere, incoming_fed, incoming_begun}
-use Rattle.ra_model.proofs.Calls.{OutgoingOf, outgoing_begin, messages_rewritten}
-use Rattle.ra_model.proofs.Kept.{IncomingOf, Kept, kept_wrote}
-use Rattle.ra_model.proofs.Sound.{View, agrees_more, agrees_same, view_call}
+use Rattle.ra_model.proofs.Outgoing.{outgoing_linked, outgoing_elsewhere, outgoing_wrote, outgoing_vanish}
+use Rattle.ra_model.proofs.Incoming.{incoming_linked, incoming_elsewhere, incoming_fed, incoming_begun}
+use Rattle.ra_model.proofs.Calls.{outgoing_begin, messages_rewritten}
+use Rattle.ra_model.proofs.Kept.{Kept, kept_wrote}
+use Rattle.ra_model.proofs.Sound.{agrees_more, agrees_same, view_call}
+use Rattle.ra_model.specs.Views.{EndpointRead, EndpointWrote, HasRead, HasWritten, View}
 
 -- a link of which a side read more is otherwise the same
 read_text : (s : Side) (k : ℕ) (l : Link) → (direction_to s (read_on s k l)).written ≡ (direction_to s l).written
@@ -39,19 +41,19 @@ read_cut A k l = refl
 read_cut B k l = refl
 
 -- and one on which bytes were written to a side
-written_text : (s : Side) (bytes : List ℕ) (l : Link) → (direction_to s (written_to s bytes l)).written ≡ (direction_to s l).written ++ cond l.is_cut [] bytes
+pub written_text : (s : Side) (bytes : List ℕ) (l : Link) → (direction_to s (written_to s bytes l)).written ≡ (direction_to s l).written ++ cond l.is_cut [] bytes
 written_text A bytes l = refl
 written_text B bytes l = refl
 
-written_read : (s : Side) (bytes : List ℕ) (l : Link) → (direction_to s (written_to s bytes l)).read ≡ (direction_to s l).read
+pub written_read : (s : Side) (bytes : List ℕ) (l : Link) → (direction_to s (written_to s bytes l)).read ≡ (direction_to s l).read
 written_read A bytes l = refl
 written_read B bytes l = refl
 
-written_other : (s : Side) (bytes : List ℕ) (l : Link) → direction_to s (written_to (other s) bytes l) ≡ direction_to s l
+pub written_other : (s : Side) (bytes : List ℕ) (l : Link) → direction_to s (written_to (other s) bytes l) ≡ direction_to s l
 written_other A bytes l = refl
 written_other B bytes l = refl
 
-written_cut : (s : Side) (bytes : List ℕ) (l : Link) → (written_to s bytes l).is_cut ≡ l.is_cut
+pub written_cut : (s : Side) (bytes : List ℕ) (l : Link) → (written_to s bytes l).is_cut ≡ l.is_cut
 written_cut A bytes l = refl
 written_cut B bytes l = refl
 
@@ -78,13 +80,13 @@ piece_is s l k =
     (λ _ some. refl)
 
 -- a link of which more was read, for its writer and for the other direction
-outgoing_read : (s : Side) (i : ℕ) (e : Endpoint) (links : List Link) (n k : ℕ) (l : Link) → OutgoingOf s i e links → at_number links n ≡ Some l → OutgoingOf s i e (put_number links n (read_on s k l))
+outgoing_read : (s : Side) (i : ℕ) (e : Endpoint) (links : List Link) (n k : ℕ) (l : Link) → EndpointWrote s i e links → at_number links n ≡ Some l → EndpointWrote s i e (put_number links n (read_on s k l))
 outgoing_read s i e links n k l h at = outgoing_elsewhere h n l (read_on s k l) at (read_text s k l) (λ is. sym (read_cut s k l) ∙ is)
 
-outgoing_reading : (s : Side) (i : ℕ) (e : Endpoint) (links : List Link) (n k : ℕ) (l : Link) → OutgoingOf (other s) i e links → at_number links n ≡ Some l → OutgoingOf (other s) i e (put_number links n (read_on s k l))
+outgoing_reading : (s : Side) (i : ℕ) (e : Endpoint) (links : List Link) (n k : ℕ) (l : Link) → EndpointWrote (other s) i e links → at_number links n ≡ Some l → EndpointWrote (other s) i e (put_number links n (read_on s k l))
 outgoing_reading s i e links n k l h at = outgoing_elsewhere h n l (read_on s k l) at (ap (λ (w : Direction). w.written) (read_other s k l)) (λ is. sym (read_cut s k l) ∙ is)
 
-incoming_read : (s : Side) (i : ℕ) (e : Endpoint) (applied : List Frame) (links : List Link) (n k : ℕ) (l : Link) → IncomingOf (other s) i e applied links → at_number links n ≡ Some l → IncomingOf (other s) i e applied (put_number links n (read_on s k l))
+incoming_read : (s : Side) (i : ℕ) (e : Endpoint) (applied : List Frame) (links : List Link) (n k : ℕ) (l : Link) → EndpointRead (other s) i e applied links → at_number links n ≡ Some l → EndpointRead (other s) i e applied (put_number links n (read_on s k l))
 incoming_read s i e applied links n k l h at = incoming_elsewhere h n l (read_on s k l) [] at (ap (λ (w : Direction). w.read) (read_other s k l)) (ap (λ (w : Direction). w.written) (read_other s k l) ∙ sym (append-nil (direction_to (other s) l).written))
 
 -- what a link that begins leaves as it is
@@ -110,11 +112,11 @@ unfolding begin owed rewritten
 base_begun epoch chunk now e =
     cond_both (can_begin epoch e) _ _ (λ (x : Endpoint). x.base ≡ e.base) (λ yes. cond_both (eqb e.epoch 0) _ _ (λ (x : Endpoint). x.base ≡ e.base) (λ first. refl) (λ later. refl)) (λ no. refl)
 
-incoming_by_begun : (to : Side) (n epoch : ℕ) (chunk : List ℕ) (now : ℕ) (e : Endpoint) (links : List Link) → can_begin epoch e ≡ true → Incoming to n true chunk [] links → IncomingOf to n (begin epoch chunk now e) [] links
+incoming_by_begun : (to : Side) (n epoch : ℕ) (chunk : List ℕ) (now : ℕ) (e : Endpoint) (links : List Link) → can_begin epoch e ≡ true → HasRead to n true chunk [] links → EndpointRead to n (begin epoch chunk now e) [] links
 unfolding begin owed rewritten
 incoming_by_begun to n epoch chunk now e links can c =
-    cond_both (can_begin epoch e) _ _ (λ (x : Endpoint). IncomingOf to n x [] links)
-    (λ yes. cond_both (eqb e.epoch 0) _ _ (λ (x : Endpoint). IncomingOf to n x [] links) (λ first. c) (λ later. c))
+    cond_both (can_begin epoch e) _ _ (λ (x : Endpoint). EndpointRead to n x [] links)
+    (λ yes. cond_both (eqb e.epoch 0) _ _ (λ (x : Endpoint). EndpointRead to n x [] links) (λ first. c) (λ later. c))
     (λ no. absurd (false≢true (sym no ∙ can)))
 
 pub epoch_begun : (epoch : ℕ) (chunk : List ℕ) (now : ℕ) (e : Endpoint) → can_begin epoch e ≡ true → (begin epoch chunk now e).epoch ≡ epoch
@@ -131,14 +133,16 @@ pub view_begin : (start : ℕ) (s : Side) (i j : ℕ) (p o : Peer) (links : List
     → View start s n j (begun epoch (take k (readable s l)) now p) o (put_number links n (read_on s k l))
 view_begin start s i j p o links n k epoch l now v later at fits can =
     let chunk : List ℕ = take k (readable s l) in
-    let incoming : Incoming s n true (take k (drop (direction_to s l).read (direction_to s l).written)) [] (put_number links n (read_on s k l)) =
+    let incoming : HasRead s n true (take k (drop (direction_to s l).read (direction_to s l).written)) [] (put_number links n (read_on s k l)) =
     incoming_begun v.reads n k l (read_on s k l) later at (read_count s k l) (read_text s k l) (piece_fits s l k (v.reads.inside n l at) fits) in
     record {
       base = base_begun epoch chunk now p.endpoint ∙ v.base;
       their_base = v.their_base;
+      away = away_begin epoch chunk now p.endpoint v.away;
+      their_away = v.their_away;
       mine = outgoing_reading s n (begin epoch chunk now p.endpoint) links n k l (outgoing_begin (other s) i n p.endpoint links epoch chunk now v.mine (rw v.base v.out.low) later (at_number_within links n l at) can) at;
       reads = incoming_by_begun s n epoch chunk now p.endpoint (put_number links n (read_on s k l)) can
-          (subst (λ (t : List ℕ). Incoming s n true t [] (put_number links n (read_on s k l))) (sym (piece_is s l k fits)) incoming);
+          (subst (λ (t : List ℕ). HasRead s n true t [] (put_number links n (read_on s k l))) (sym (piece_is s l k fits)) incoming);
       theirs = outgoing_read s j o.endpoint links n k l v.theirs at;
       their_reads = incoming_read s j o.endpoint o.applied links n k l v.their_reads at;
       out = record {
@@ -150,9 +154,9 @@ view_begin start s i j p o links n k epoch l now v later at fits can =
       back = record { prefix = v.back.prefix; count = received_begun epoch chunk now p.endpoint ∙ v.back.count; acked = v.back.acked; low = v.back.low };
     }
 
-outgoing_feed : (to : Side) (n epoch : ℕ) (piece : List ℕ) (now : ℕ) (e : Endpoint) (links : List Link) → OutgoingOf to n e links → OutgoingOf to n (feed epoch piece now e) links
+outgoing_feed : (to : Side) (n epoch : ℕ) (piece : List ℕ) (now : ℕ) (e : Endpoint) (links : List Link) → EndpointWrote to n e links → EndpointWrote to n (feed epoch piece now e) links
 unfolding feed
-outgoing_feed to n epoch piece now e links h = cond_both (can_feed epoch e) _ _ (λ (x : Endpoint). OutgoingOf to n x links) (λ yes. h) (λ no. h)
+outgoing_feed to n epoch piece now e links h = cond_both (can_feed epoch e) _ _ (λ (x : Endpoint). EndpointWrote to n x links) (λ yes. h) (λ no. h)
 
 pub messages_fed : (epoch : ℕ) (piece : List ℕ) (now : ℕ) (e : Endpoint) → messages (feed epoch piece now e) ≡ messages e
 unfolding feed
@@ -171,23 +175,25 @@ unfolding feed
 base_fed epoch piece now e = cond_both (can_feed epoch e) _ _ (λ (x : Endpoint). x.base ≡ e.base) (λ yes. refl) (λ no. refl)
 
 incoming_by_fed : (to : Side) (n epoch : ℕ) (piece : List ℕ) (now : ℕ) (e : Endpoint) (applied : List Frame) (links : List Link) → can_feed epoch e ≡ true
-    → Incoming to n (is_linked e.phase) (e.unread ++ piece) applied links → IncomingOf to n (feed epoch piece now e) applied links
+    → HasRead to n (is_linked e.phase) (e.unread ++ piece) applied links → EndpointRead to n (feed epoch piece now e) applied links
 unfolding feed
 incoming_by_fed to n epoch piece now e applied links can c =
-    cond_both (can_feed epoch e) _ _ (λ (x : Endpoint). IncomingOf to n x applied links) (λ yes. c) (λ no. absurd (false≢true (sym no ∙ can)))
+    cond_both (can_feed epoch e) _ _ (λ (x : Endpoint). EndpointRead to n x applied links) (λ yes. c) (λ no. absurd (false≢true (sym no ∙ can)))
 
 pub view_feed : (start : ℕ) (s : Side) (i j : ℕ) (p o : Peer) (links : List Link) (k epoch : ℕ) (l : Link) (now : ℕ) → View start s i j p o links → at_number links i ≡ Some l → k ≤ length (readable s l) → can_feed epoch p.endpoint ≡ true
     → View start s i j (with_endpoint (feed epoch (take k (readable s l)) now p.endpoint) p) o (put_number links i (read_on s k l))
 view_feed start s i j p o links k epoch l now v at fits can =
     let piece : List ℕ = take k (readable s l) in
-    let incoming : Incoming s i (is_linked p.endpoint.phase) (p.endpoint.unread ++ take k (drop (direction_to s l).read (direction_to s l).written)) p.applied (put_number links i (read_on s k l)) =
+    let incoming : HasRead s i (is_linked p.endpoint.phase) (p.endpoint.unread ++ take k (drop (direction_to s l).read (direction_to s l).written)) p.applied (put_number links i (read_on s k l)) =
     incoming_fed v.reads k l (read_on s k l) at (read_count s k l) (read_text s k l) (piece_fits s l k (v.reads.inside i l at) fits) in
     record {
       base = base_fed epoch piece now p.endpoint ∙ v.base;
       their_base = v.their_base;
+      away = away_feed epoch piece now p.endpoint v.away;
+      their_away = v.their_away;
       mine = outgoing_reading s i (feed epoch piece now p.endpoint) links i k l (outgoing_feed (other s) i epoch piece now p.endpoint links v.mine) at;
       reads = incoming_by_fed s i epoch piece now p.endpoint p.applied (put_number links i (read_on s k l)) can
-          (subst (λ (t : List ℕ). Incoming s i (is_linked p.endpoint.phase) (p.endpoint.unread ++ t) p.applied (put_number links i (read_on s k l))) (sym (piece_is s l k fits)) incoming);
+          (subst (λ (t : List ℕ). HasRead s i (is_linked p.endpoint.phase) (p.endpoint.unread ++ t) p.applied (put_number links i (read_on s k l))) (sym (piece_is s l k fits)) incoming);
       theirs = outgoing_read s j o.endpoint links i k l v.theirs at;
       their_reads = incoming_read s j o.endpoint o.applied links i k l v.their_reads at;
       out = record {
@@ -203,6 +209,8 @@ pub view_linked : (start : ℕ) (s : Side) (i j : ℕ) (p o : Peer) (links : Lis
 view_linked start s i j p o links v = record {
   base = v.base;
   their_base = v.their_base;
+  away = v.away;
+  their_away = v.their_away;
   mine = outgoing_linked v.mine;
   reads = incoming_linked v.reads v.mine.there;
   theirs = outgoing_linked v.theirs;
@@ -218,6 +226,8 @@ view_cut start s i j p o links n l v at =
     record {
       base = v.base;
       their_base = v.their_base;
+      away = v.away;
+      their_away = v.their_away;
       mine = outgoing_elsewhere v.mine n l (cut_off l) at (texts (other s)) (λ is. cc);
       reads = incoming_elsewhere v.reads n l (cut_off l) [] at (counts s) (texts s ∙ sym (append-nil (direction_to s l).written));
       theirs = outgoing_elsewhere v.theirs n l (cut_off l) at (texts s) (λ is. cc);
@@ -233,14 +243,14 @@ shown_front e k =
     (λ _ none. let nothing : k ≡ 0 = (let low : k ≤ 0 = none in omega arith) in rw nothing refl)
     (λ _ some. refl)
 
-outgoing_by_wrote : (to : Side) (i : ℕ) (e : Endpoint) (k : ℕ) (links links' : List Link) → OutgoingOf to i e links → k ≤ length (shown e) → Outgoing to e.base e.said e.received i (is_linked e.phase) (drop k e.unwritten) links' → OutgoingOf to i (wrote k e) links'
+outgoing_by_wrote : (to : Side) (i : ℕ) (e : Endpoint) (k : ℕ) (links links' : List Link) → EndpointWrote to i e links → k ≤ length (shown e) → HasWritten to e.base e.said e.received i (is_linked e.phase) (drop k e.unwritten) links' → EndpointWrote to i (wrote k e) links'
 unfolding wrote
 outgoing_by_wrote to i e k links links' h fits after =
-    cond_both (leb k (length (shown e))) _ _ (λ (x : Endpoint). OutgoingOf to i x links') (λ yes. after) (λ no. absurd (false≢true (sym no ∙ le-leb k (length (shown e)) fits)))
+    cond_both (leb k (length (shown e))) _ _ (λ (x : Endpoint). EndpointWrote to i x links') (λ yes. after) (λ no. absurd (false≢true (sym no ∙ le-leb k (length (shown e)) fits)))
 
 -- bytes go onto the present link, which may be cut
-outgoing_on_link : (to : Side) (i : ℕ) (e : Endpoint) (k : ℕ) (links : List Link) (l : Link) (bytes : List ℕ) (cut : Bool) → l.is_cut ≡ cut → OutgoingOf to i e links → at_number links i ≡ Some l → bytes ≡ take k e.unwritten
-    → Outgoing to e.base e.said e.received i (is_linked e.phase) (drop k e.unwritten) (put_number links i (written_to to bytes l))
+outgoing_on_link : (to : Side) (i : ℕ) (e : Endpoint) (k : ℕ) (links : List Link) (l : Link) (bytes : List ℕ) (cut : Bool) → l.is_cut ≡ cut → EndpointWrote to i e links → at_number links i ≡ Some l → bytes ≡ take k e.unwritten
+    → HasWritten to e.base e.said e.received i (is_linked e.phase) (drop k e.unwritten) (put_number links i (written_to to bytes l))
 outgoing_on_link to i e k links l bytes true is h at same =
     let l' : Link = written_to to bytes l in
     let text : (direction_to to l').written ≡ (direction_to to l).written =
@@ -256,18 +266,20 @@ view_written : (start : ℕ) (s : Side) (i j : ℕ) (p o : Peer) (links : List L
     → View start s i j (with_endpoint (wrote k p.endpoint) p) o (links_written s (take k (shown p.endpoint)) i found links)
 view_written start s i j p o links k None v fits is =
     view_call start s i j p o links (wrote k p.endpoint) v (kept_wrote k p.endpoint)
-    (outgoing_by_wrote (other s) i p.endpoint k links links v.mine fits (outgoing_vanish v.mine k (λ l at kept. none-some l (sym is ∙ at))))
+    (outgoing_by_wrote (other s) i p.endpoint k links links v.mine fits (outgoing_vanish v.mine k (λ l at kept. none-some l (sym is ∙ at)))) (away_wrote k p.endpoint v.away)
 view_written start s i j p o links k (Some l) v fits is =
     let bytes : List ℕ = take k (shown p.endpoint) in
     let l' : Link = written_to (other s) bytes l in
     let links' : List Link = put_number links i l' in
     let kept : Kept p.endpoint (wrote k p.endpoint) = kept_wrote k p.endpoint in
     let aside : direction_to s l' ≡ direction_to s l = written_other s bytes l in
-    let reads : IncomingOf s i p.endpoint p.applied links' =
+    let reads : EndpointRead s i p.endpoint p.applied links' =
     incoming_elsewhere v.reads i l l' [] is (ap (λ (w : Direction). w.read) aside) (ap (λ (w : Direction). w.written) aside ∙ sym (append-nil (direction_to s l).written)) in
     record {
       base = kept.base ∙ v.base;
       their_base = v.their_base;
+      away = away_wrote k p.endpoint v.away;
+      their_away = v.their_away;
       mine = outgoing_by_wrote (other s) i p.endpoint k links links' v.mine fits (outgoing_on_link (other s) i p.endpoint k links l bytes l.is_cut refl v.mine is (shown_front p.endpoint k fits));
       reads = kept.incoming s i p.applied links' reads;
       theirs = outgoing_elsewhere v.theirs i l l' is (ap (λ (w : Direction). w.written) aside) (λ k. sym (written_cut (other s) bytes l) ∙ k);

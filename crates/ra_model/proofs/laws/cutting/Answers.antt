@@ -1,0 +1,6 @@
+use Rattle.ra_model.proofs.CuttingLemmas.{is_cut, frames_step, frames_none, found_parts}
+use Rattle.ra_model.proofs.Framing.{first_frame_more}
+use Rattle.ra_model.proofs.laws.cutting.Goals as goal
+
+pub returns : goal.returns
+returns c = record { is_cut = is_cut; step = frames_step; none = frames_none; found = found_parts; later = first_frame_more }
