@@ -1,16 +1,22 @@
 -- What stands at the front, by its header.
-use Rattle.std.proofs.Common.{◌≡◌, ℕ, ◌+◌, ◌<◌, ◌≤◌, Bool, true, false, leb, ltb, eqb, suc, ◌∷◌, Some, List, [], length, take, drop, get_or, ◌-◌, refl, ap, sym, ◌∙◌, arith}
+use Rattle.std.proofs.Common.{◌≡◌, ℕ, ◌+◌, ◌<◌, ◌≤◌, Bool, true, false, leb, ltb, eqb, suc, ◌∷◌, Some, None, List, [], length, take, drop, get_or, ◌-◌, ◌++◌, refl, ap, sym, ◌∙◌, arith}
 use Rattle.std.proofs.lemmas.List.{length-take, length-drop}
 use Rattle.std.proofs.lemmas.Bool.{le-leb, lt-leb, lt-ltb, le-ltb, eqb-true, leb-true, and_from, and_parts, and_left, and_right, cond-true, cond-false}
 use Rattle.ra_model.specs.declared.frame.Frame.{Frame}
-use Rattle.ra_model.specs.Frames.{body_limit, number_width, wide_mark}
+use Rattle.ra_model.specs.Frames.{HoldsNoFrame, IsBytes, Begins, body_limit, number_width, wide_mark}
 use Rattle.ra_model.specs.FirstFrame.{is_wide, header_len, stated, has_frame, split_frame, is_too_long, first_frame, number_at, ack_place, len_place}
+use Rattle.ra_model.proofs.Framing.{first_frame-none, header_more}
+use Rattle.ra_model.proofs.Reading.{first_frame-some}
+use Rattle.ra_model.proofs.Cuts.{found-not_too_long, too_long-more}
 use Rattle.std.specs.Int.{byte_len}
 use Rattle.ra_frame.specs.Fronts.{IsPartial, IsTooLong, IsWhole}
 
+partial_of : (text : List ℕ) → first_frame text ≡ None → is_too_long text ≡ false → IsPartial text
+partial_of text none short = record { holds_none = first_frame-none text none; no_frame = none; not_too_long = short }
+
 pub partial_empty : (text : List ℕ) → eqb (length text) 0 ≡ true → IsPartial text
 unfolding first_frame has_frame is_too_long number_at
-partial_empty [] h = record { no_frame = refl; not_too_long = refl }
+partial_empty [] h = partial_of [] refl refl
 partial_empty (b ∷ text) h = let none : suc (length text) ≡ 0 = eqb-true (suc (length text)) 0 h in absurd (omega arith)
 
 -- less than a header
@@ -18,27 +24,27 @@ pub partial_header : (text : List ℕ) → length text < header_len (is_wide tex
 unfolding first_frame has_frame is_too_long
 partial_header text short =
     let no : leb (header_len (is_wide text)) (length text) ≡ false = lt-leb (header_len (is_wide text)) (length text) short in
-    record { no_frame = cond-false _ _ _ (and_left _ _ no); not_too_long = and_left _ _ no }
+    partial_of text (cond-false _ _ _ (and_left _ _ no)) (and_left _ _ no)
 
 -- less than the body
 pub partial_body : (text : List ℕ) → stated text ≤ body_limit → length text < header_len (is_wide text) + stated text → IsPartial text
 unfolding first_frame has_frame is_too_long
 partial_body text small short =
-    record {
-      no_frame = cond-false _ _ _ (and_right _ _ (and_right _ _ (lt-leb (header_len (is_wide text) + stated text) (length text) short)));
-      not_too_long = and_right _ _ (le-ltb body_limit (stated text) small);
-    }
+    partial_of text
+    (cond-false _ _ _ (and_right _ _ (and_right _ _ (lt-leb (header_len (is_wide text) + stated text) (length text) short))))
+    (and_right _ _ (le-ltb body_limit (stated text) small))
 
 pub too_long : (text : List ℕ) (n : ℕ) → stated text ≡ n → header_len (is_wide text) ≤ length text → body_limit < n → IsTooLong text n
 unfolding is_too_long
 too_long text n is there above = record { too_long = and_from _ _ (le-leb (header_len (is_wide text)) (length text) there) (ap (λ (m : ℕ). ltb body_limit m) is ∙ lt-ltb body_limit n above); stated = is }
 
-pub whole : (text : List ℕ) (n : ℕ) → stated text ≡ n → n ≤ body_limit → header_len (is_wide text) + n ≤ length text → IsWhole text n
+pub whole : (text : List ℕ) (n : ℕ) → IsBytes text → stated text ≡ n → n ≤ body_limit → header_len (is_wide text) + n ≤ length text → IsWhole text n
 unfolding has_frame
-whole text n is small there =
+whole text n bytes is small there =
     record {
       frame = and_from _ _ (le-leb (header_len (is_wide text)) (length text) (omega arith)) (and_from _ _ (le-leb n body_limit small) (le-leb (header_len (is_wide text) + n) (length text) there));
       stated = is;
+      bytes = bytes;
     }
 
 pub whole_there : (text : List ℕ) (n : ℕ) → IsWhole text n → header_len (is_wide text) + n ≤ length text
@@ -85,9 +91,20 @@ within buffer start n header wide inside h is =
     let same : header ≡ header_len (is_wide unread) = is ∙ ap header_len h.1 in
     omega (arith, length-take (length buffer - start) (drop start buffer), length-drop start buffer)
 
--- the three cases of a front exclude each other
-pub whole_not_partial : (text : List ℕ) (n : ℕ) → IsWhole text n → IsPartial text → ⊥
-whole_not_partial text n w partial = let two = sym (first_is text n w) ∙ partial.no_frame in cc
+-- a frame that is read from a text with a whole frame begins it
+pub whole_begins : (text : List ℕ) (n : ℕ) (f : Frame) (rest : List ℕ) → IsWhole text n → first_frame text ≡ Some (f, rest) → Begins text f rest
+whole_begins text n f rest w is = first_frame-some text f rest w.bytes is
 
-pub too_long_not_partial : (text : List ℕ) (n : ℕ) → IsTooLong text n → IsPartial text → ⊥
-too_long_not_partial text n long partial = let two = sym long.too_long ∙ partial.not_too_long in cc
+-- the three cases of a front exclude each other
+pub whole_held : (text : List ℕ) (n : ℕ) → IsWhole text n → HoldsNoFrame text → ⊥
+whole_held text n w none = let front = whole_begins text n _ _ w (first_is text n w) in none _ _ front.fits front.whole
+
+pub whole_not_too_long : (text : List ℕ) (n m : ℕ) → IsWhole text n → IsTooLong text m → ⊥
+whole_not_too_long text n m w long = let two = sym (found-not_too_long text _ (first_is text n w)) ∙ long.too_long in cc
+
+-- whatever comes behind it
+pub too_long_more : (text more : List ℕ) (n : ℕ) → IsTooLong text n → IsTooLong (text ++ more) n
+unfolding is_too_long
+too_long_more text more n long =
+    let there : header_len (is_wide text) ≤ length text = leb-true (header_len (is_wide text)) (length text) (and_parts _ _ long.too_long).0 in
+    record { too_long = too_long-more text more long.too_long; stated = (header_more text more there).1 ∙ long.stated }

@@ -1,9 +1,9 @@
 //! The reader: bytes come in any pieces, and frames go out.
 //!
 //! It copies each body once, keeps the bytes of a frame that is not whole yet, and reserves nothing for what a header only states.
-ghost use Rattle.std.specs.Prelude.{◌≡◌, ◌≤◌, ◌++◌, ◌↔◌, ℕ, List, [], length, drop, Ok, Err, Some, None, false, OnOk, OnErr, IfOk, IfErr, MatchOption, IsSome};
+ghost use Rattle.std.specs.Prelude.{◌≡◌, ◌≤◌, ◌++◌, ℕ, List, [], length, drop, Ok, Err, Some, None, false, OnOk, OnErr, IfOk, IfErr, MatchOption, IfSome};
 ghost use Rattle.ra_model.specs.Frames.{Begins, HoldsNoFrame};
-ghost use Rattle.ra_model.specs.FirstFrame.{first_frame};
+ghost use Rattle.ra_model.specs.FirstFrame.{first_frame, is_too_long};
 ghost use Rattle.ra_frame.specs.Fronts.{IsPartial, IsTooLong};
 ghost use Rattle.ra_frame.specs.declared.reader.FrameFault.TheVariants.{NoMemory as OutOfMemory};
 
@@ -113,7 +113,10 @@ impl FrameReader {
     /// `TooLong` stays until the unread bytes are discarded, whatever is fed.
     pub fn next(&mut self, alloc: Global) -> Result<Option<Frame>, FrameFault>
         ensures found { IfOk result (λ found. MatchOption found (IsPartial self.old × (self.new ≡ self.old)) (λ f. first_frame self.old ≡ Some (f, self.new))) }
+        ensures begins { IfOk result (λ found. IfSome found (λ f. Begins self.old f self.new)) }
+        ensures none { HoldsNoFrame self.old → is_too_long self.old ≡ false → result ≡ Ok None }
         ensures too_long { IfErr result (λ fault. (n : ℕ) → fault ≡ FrameFault.TooLong n → IsTooLong self.old n) }
+        ensures stands { (n : ℕ) → IsTooLong self.old n → result ≡ Err (FrameFault.TooLong n) }
         ensures err { OnErr result (self.new ≡ self.old) }
     {
         let Some((frame, len)) = self.peek(alloc)? else {
@@ -126,7 +129,10 @@ impl FrameReader {
     /// The next frame, which stays unread, and how many bytes it has.
     pub fn peek(&self, alloc: Global) -> Result<Option<(Frame, usize)>, FrameFault>
         ensures found { IfOk result (λ found. MatchOption found (IsPartial self.now) (λ p. (first_frame self.now ≡ Some (p.0, drop p.1 self.now)) × (p.1 ≤ length self.now))) }
+        ensures begins { IfOk result (λ found. IfSome found (λ p. Begins self.now p.0 (drop p.1 self.now))) }
+        ensures none { HoldsNoFrame self.now → is_too_long self.now ≡ false → result ≡ Ok None }
         ensures too_long { IfErr result (λ fault. (n : ℕ) → fault ≡ FrameFault.TooLong n → IsTooLong self.now n) }
+        ensures stands { (n : ℕ) → IsTooLong self.now n → result ≡ Err (FrameFault.TooLong n) }
     {
         let unread = self.unread();
         match front_of(unread) {
@@ -151,7 +157,8 @@ impl FrameReader {
 
     /// Whether `next` has a frame or a `TooLong` to give.
     pub fn ready(&self) -> bool
-        ensures { (result ≡ false) ↔ IsPartial self.now }
+        ensures partial { result ≡ false → IsPartial self.now }
+        ensures none { HoldsNoFrame self.now → is_too_long self.now ≡ false → result ≡ false }
     {
         match front_of(self.unread()) {
             Front::Partial => false,

@@ -18,7 +18,7 @@ use Rattle.ra_base.specs.declared.event.Event.TheVariants.{Link as LinkMade, At,
 use Rattle.ra_model.specs.Acks.{counted_ack, acks_of, unless_acks, run_acks, greatest}
 use Rattle.ra_model.proofs.Kept.{Kept, kept_say, kept_control, kept_pause, kept_resume, kept_tick, kept_lose, kept_leave, kept_finish, kept_wrote}
 use Rattle.ra_model.proofs.Takes.{acknowledged_came}
-use Rattle.ra_model.proofs.Moves.{acknowledged_begun, acknowledged_fed}
+use Rattle.ra_model.proofs.LinkMoves.{acknowledged_begun, acknowledged_fed}
 use Rattle.ra_model.proofs.Runs.{called_over}
 
 -- what a side counts as acknowledged

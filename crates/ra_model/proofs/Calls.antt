@@ -18,11 +18,8 @@ use Rattle.ra_model.specs.Links.{Link, at_number}
 use Rattle.ra_base.specs.declared.event.Side.{Side}
 use Rattle.ra_model.specs.Pairs.{body_of, IsHonest, AllHonest}
 use Rattle.ra_model.proofs.Honesty.{Grown, all_append, at_number_more}
-use Rattle.ra_model.proofs.Outgoing.{Outgoing, IsStored, outgoing_grown, outgoing_write, outgoing_discard, outgoing_left, outgoing_begun}
-
--- what an endpoint has said and written
-abbrev pub OutgoingOf : Side → ℕ → Endpoint → List Link → Type 0
-OutgoingOf to n e links = Outgoing to e.base e.said e.received n (is_linked e.phase) e.unwritten links
+use Rattle.ra_model.proofs.Outgoing.{outgoing_grown, outgoing_write, outgoing_discard, outgoing_left, outgoing_begun}
+use Rattle.ra_model.specs.Views.{EndpointWrote, HasWritten, IsStored}
 
 -- what an endpoint writes is a frame
 written_fits : (kind id ack : ℕ) (body : List ℕ) → kind < 128 → id ≤ last_id → ack ≤ last_id → length body ≤ body_limit → IsFrame (written_frame kind id ack body)
@@ -49,6 +46,15 @@ honest_plain base said received kind ack body small other low ids fits = record 
   fits = written_fits kind 0 ack body small (omega arith) (omega arith) fits;
   message = λ is. absurd (other is);
   ack = low;
+}
+
+-- whoever writes it: a frame that is no message, and acknowledges nothing
+pub honest_silent : (base : ℕ) (said : List (List ℕ)) (received kind : ℕ) (body : List ℕ) → kind < 128 → (frame_kind kind ≡ Regular → ⊥) → length body ≤ body_limit → IsHonest base said received (written_frame kind 0 0 body)
+unfolding written_frame
+honest_silent base said received kind body small other fits = record {
+  fits = written_fits kind 0 0 body small (omega arith) (omega arith) fits;
+  message = λ is. absurd (other is);
+  ack = omega arith;
 }
 
 pub get_from_drop : {X : Type 0} → (n : ℕ) (xs : List X) (y : X) (ys : List X) → drop n xs ≡ y ∷ ys → slice_get xs n ≡ Some y
@@ -100,7 +106,7 @@ numbered_honest base said received count ids n (m ∷ ms) is stored last at =
       numbered_honest base said received count ids (suc n) ms (drop_next n said m ms is) stored.1 (suc last) (omega arith),
     )
 
-pub replay_honest : (to : Side) (n : ℕ) (e : Endpoint) (links : List Link) → OutgoingOf to n e links → e.base ≤ e.acknowledged → AllHonest e.base (map body_of e.said) e.received (replay e)
+pub replay_honest : (to : Side) (n : ℕ) (e : Endpoint) (links : List Link) → EndpointWrote to n e links → e.base ≤ e.acknowledged → AllHonest e.base (map body_of e.said) e.received (replay e)
 unfolding owed
 replay_honest to n e links h low =
     numbered_honest e.base e.said e.received h.count h.ids (acknowledged_count e) (drop (acknowledged_count e) e.said) refl (all_drop (IsStored e.received) (acknowledged_count e) e.said h.stored)
@@ -143,29 +149,29 @@ grown_same said said' received is = record {
   more = omega arith;
 }
 
-outgoing_rewritten : (to : Side) (n : ℕ) (e : Endpoint) (links : List Link) (now : ℕ) (linked : Bool) (text : List ℕ) → OutgoingOf to n e links → Outgoing to e.base e.said e.received n linked text links
-    → Outgoing to e.base (rewritten now e) e.received n linked text links
+outgoing_rewritten : (to : Side) (n : ℕ) (e : Endpoint) (links : List Link) (now : ℕ) (linked : Bool) (text : List ℕ) → EndpointWrote to n e links → HasWritten to e.base e.said e.received n linked text links
+    → HasWritten to e.base (rewritten now e) e.received n linked text links
 outgoing_rewritten to n e links now linked text h both =
     outgoing_grown both (rewritten now e) e.received (grown_same (map body_of e.said) (map body_of (rewritten now e)) e.received (messages_rewritten now e))
     (rw (length-rewritten now e) h.count) h.ids (stored_rewritten now e h.stored)
 
 -- what is owed is written again, behind other honest frames
-pub outgoing_replay : (to : Side) (n : ℕ) (e : Endpoint) (links : List Link) (now : ℕ) (frames : List Frame) → OutgoingOf to n e links → e.base ≤ e.acknowledged → is_linked e.phase ≡ true → AllHonest e.base (map body_of e.said) e.received frames
-    → Outgoing to e.base (rewritten now e) e.received n true ((e.unwritten ++ joined frames) ++ joined (replay e)) links
+pub outgoing_replay : (to : Side) (n : ℕ) (e : Endpoint) (links : List Link) (now : ℕ) (frames : List Frame) → EndpointWrote to n e links → e.base ≤ e.acknowledged → is_linked e.phase ≡ true → AllHonest e.base (map body_of e.said) e.received frames
+    → HasWritten to e.base (rewritten now e) e.received n true ((e.unwritten ++ joined frames) ++ joined (replay e)) links
 outgoing_replay to n e links now frames h low up all =
-    let linked : Outgoing to e.base e.said e.received n true e.unwritten links = subst (λ (b : Bool). Outgoing to e.base e.said e.received n b e.unwritten links) up h in
-    let front : Outgoing to e.base e.said e.received n true (e.unwritten ++ joined frames) links = outgoing_write linked frames refl all in
-    let both : Outgoing to e.base e.said e.received n true ((e.unwritten ++ joined frames) ++ joined (replay e)) links = outgoing_write front (replay e) refl (replay_honest to n e links h low) in
+    let linked : HasWritten to e.base e.said e.received n true e.unwritten links = subst (λ (b : Bool). HasWritten to e.base e.said e.received n b e.unwritten links) up h in
+    let front : HasWritten to e.base e.said e.received n true (e.unwritten ++ joined frames) links = outgoing_write linked frames refl all in
+    let both : HasWritten to e.base e.said e.received n true ((e.unwritten ++ joined frames) ++ joined (replay e)) links = outgoing_write front (replay e) refl (replay_honest to n e links h low) in
     outgoing_rewritten to n e links now true ((e.unwritten ++ joined frames) ++ joined (replay e)) h both
 
 -- a frame is written where the endpoint is up
 write_when : (to : Side) (base : ℕ) (said : List SaidMessage) (received epoch : ℕ) (phase : Phase) (unwritten : List ℕ) (links : List Link) (f : Frame)
-    → Outgoing to base said received epoch (is_linked phase) unwritten links → IsHonest base (map body_of said) received f
-    → Outgoing to base said received epoch (is_linked phase) (unwritten ++ joined (when (is_up phase) f)) links
-write_when to base said received epoch Away unwritten links f h honest = subst (λ (t : List ℕ). Outgoing to base said received epoch false t links) (sym (append-nil unwritten)) h
-write_when to base said received epoch Joining unwritten links f h honest = subst (λ (t : List ℕ). Outgoing to base said received epoch true t links) (sym (append-nil unwritten)) h
+    → HasWritten to base said received epoch (is_linked phase) unwritten links → IsHonest base (map body_of said) received f
+    → HasWritten to base said received epoch (is_linked phase) (unwritten ++ joined (when (is_up phase) f)) links
+write_when to base said received epoch Away unwritten links f h honest = subst (λ (t : List ℕ). HasWritten to base said received epoch false t links) (sym (append-nil unwritten)) h
+write_when to base said received epoch Joining unwritten links f h honest = subst (λ (t : List ℕ). HasWritten to base said received epoch true t links) (sym (append-nil unwritten)) h
 write_when to base said received epoch Up unwritten links f h honest = outgoing_write h (f ∷ []) refl (honest, tt)
-write_when to base said received epoch Ended unwritten links f h honest = subst (λ (t : List ℕ). Outgoing to base said received epoch false t links) (sym (append-nil unwritten)) h
+write_when to base said received epoch Ended unwritten links f h honest = subst (λ (t : List ℕ). HasWritten to base said received epoch false t links) (sym (append-nil unwritten)) h
 
 get_last : {X : Type 0} → (xs : List X) (x : X) → slice_get (xs ++ x ∷ []) (length xs) ≡ Some x
 get_last [] x = refl
@@ -177,17 +183,17 @@ grown_said said m received = record {
   more = omega arith;
 }
 
-pub outgoing_say : (to : Side) (n : ℕ) (e : Endpoint) (links : List Link) (body : List ℕ) (now : ℕ) → OutgoingOf to n e links → OutgoingOf to n (say body now e) links
+pub outgoing_say : (to : Side) (n : ℕ) (e : Endpoint) (links : List Link) (body : List ℕ) (now : ℕ) → EndpointWrote to n e links → EndpointWrote to n (say body now e) links
 unfolding say written_frame
 outgoing_say to n e links body now h =
-    cond_both (can_say body e) _ _ (λ (x : Endpoint). OutgoingOf to n x links)
+    cond_both (can_say body e) _ _ (λ (x : Endpoint). EndpointWrote to n x links)
     (λ yes.
-    let limits = and_parts _ _ (and_parts _ _ yes).1 in
+    let limits : (leb (length body) body_limit ≡ true) × (ltb (sent e) last_id ≡ true) = and_parts _ _ (and_parts _ _ yes).1 in
     let fits : length body ≤ body_limit = leb-true (length body) body_limit limits.0 in
     let room : e.base + length e.said < last_id = ltb-true (sent e) last_id limits.1 in
     let m : SaidMessage = record { body = body; ack = e.received; written = cond (is_up e.phase) (Some (moment now e)) None } in
     let count : e.base + length (e.said ++ m ∷ []) ≤ last_id = omega (arith, length-append e.said (m ∷ [])) in
-    let more : Outgoing to e.base (e.said ++ m ∷ []) e.received n (is_linked e.phase) e.unwritten links =
+    let more : HasWritten to e.base (e.said ++ m ∷ []) e.received n (is_linked e.phase) e.unwritten links =
     outgoing_grown h (e.said ++ m ∷ []) e.received (grown_said e.said m e.received) count h.ids
     (all_append (IsStored e.received) e.said (m ∷ []) h.stored (record { ack = omega arith; body = fits }, tt)) in
     let place : suc (sent e) - e.base ≡ suc (length e.said) = omega arith in
@@ -199,29 +205,29 @@ outgoing_say to n e links body now h =
     write_when to e.base (e.said ++ m ∷ []) e.received n e.phase e.unwritten links (regular (suc (sent e)) e.received body) more honest)
     (λ no. h)
 
-outgoing_plain : (to : Side) (n : ℕ) (e : Endpoint) (links : List Link) (f : Frame) → OutgoingOf to n e links → is_linked e.phase ≡ true → IsHonest e.base (map body_of e.said) e.received f
-    → Outgoing to e.base e.said e.received n (is_linked e.phase) (e.unwritten ++ joined (f ∷ [])) links
+outgoing_plain : (to : Side) (n : ℕ) (e : Endpoint) (links : List Link) (f : Frame) → EndpointWrote to n e links → is_linked e.phase ≡ true → IsHonest e.base (map body_of e.said) e.received f
+    → HasWritten to e.base e.said e.received n (is_linked e.phase) (e.unwritten ++ joined (f ∷ [])) links
 outgoing_plain to n e links f h up honest = outgoing_write h (f ∷ []) up (honest, tt)
 
-pub outgoing_control : (to : Side) (n : ℕ) (e : Endpoint) (links : List Link) (body : List ℕ) → OutgoingOf to n e links → OutgoingOf to n (control body e) links
+pub outgoing_control : (to : Side) (n : ℕ) (e : Endpoint) (links : List Link) (body : List ℕ) → EndpointWrote to n e links → EndpointWrote to n (control body e) links
 unfolding control
 outgoing_control to n e links body h =
-    cond_both (is_linked e.phase && leb (length body) body_limit) _ _ (λ (x : Endpoint). OutgoingOf to n x links)
+    cond_both (is_linked e.phase && leb (length body) body_limit) _ _ (λ (x : Endpoint). EndpointWrote to n x links)
     (λ yes. let parts = and_parts _ _ yes in
     outgoing_plain to n e links (control_frame body) h parts.0 (honest_plain e.base (map body_of e.said) e.received 2 0 body (omega arith) (λ is. cc) (omega arith) h.ids (leb-true (length body) body_limit parts.1)))
     (λ no. h)
 
-pub outgoing_pause : (to : Side) (n : ℕ) (e : Endpoint) (links : List Link) → OutgoingOf to n e links → OutgoingOf to n (ask_pause e) links
+pub outgoing_pause : (to : Side) (n : ℕ) (e : Endpoint) (links : List Link) → EndpointWrote to n e links → EndpointWrote to n (ask_pause e) links
 unfolding ask_pause
 outgoing_pause to n e links h =
-    cond_both (is_linked e.phase) _ _ (λ (x : Endpoint). OutgoingOf to n x links)
+    cond_both (is_linked e.phase) _ _ (λ (x : Endpoint). EndpointWrote to n x links)
     (λ yes. outgoing_plain to n e links pause_frame h yes (honest_plain e.base (map body_of e.said) e.received 7 0 [] (omega arith) (λ is. cc) (omega arith) h.ids (omega arith)))
     (λ no. h)
 
-pub outgoing_resume : (to : Side) (n : ℕ) (e : Endpoint) (links : List Link) → OutgoingOf to n e links → OutgoingOf to n (ask_resume e) links
+pub outgoing_resume : (to : Side) (n : ℕ) (e : Endpoint) (links : List Link) → EndpointWrote to n e links → EndpointWrote to n (ask_resume e) links
 unfolding ask_resume
 outgoing_resume to n e links h =
-    cond_both (is_linked e.phase) _ _ (λ (x : Endpoint). OutgoingOf to n x links)
+    cond_both (is_linked e.phase) _ _ (λ (x : Endpoint). EndpointWrote to n x links)
     (λ yes. outgoing_plain to n e links resume_frame h yes (honest_plain e.base (map body_of e.said) e.received 8 0 [] (omega arith) (λ is. cc) (omega arith) h.ids (omega arith)))
     (λ no. h)
 
@@ -241,10 +247,10 @@ linked_from_joining Joining h = refl
 linked_from_joining Up h = refl
 linked_from_joining Ended h = h
 
-pub outgoing_tick : (to : Side) (n : ℕ) (e : Endpoint) (links : List Link) (now : ℕ) → OutgoingOf to n e links → OutgoingOf to n (tick now e) links
+pub outgoing_tick : (to : Side) (n : ℕ) (e : Endpoint) (links : List Link) (now : ℕ) → EndpointWrote to n e links → EndpointWrote to n (tick now e) links
 unfolding tick
 outgoing_tick to n e links now h =
-    cond_both (is_up e.phase) _ _ (λ (x : Endpoint). OutgoingOf to n x links)
+    cond_both (is_up e.phase) _ _ (λ (x : Endpoint). EndpointWrote to n x links)
     (λ yes.
     let d : Endpoint = dated (moment now e) e in
     let P : Frame → Type 0 = IsHonest e.base (map body_of e.said) e.received in
@@ -254,30 +260,30 @@ outgoing_tick to n e links now h =
     (all_append P (when (writes_ack (moment now e) d) (ack_frame e.received)) (when (writes_keep_alive (moment now e) d) (keep_alive_frame e.received)) (all_when P (writes_ack (moment now e) d) (ack_frame e.received) ack) (all_when P (writes_keep_alive (moment now e) d) (keep_alive_frame e.received) alive)))
     (λ no. h)
 
-pub outgoing_lose : (to : Side) (n : ℕ) (e : Endpoint) (links : List Link) (epoch : ℕ) → OutgoingOf to n e links → OutgoingOf to n (lose epoch e) links
+pub outgoing_lose : (to : Side) (n : ℕ) (e : Endpoint) (links : List Link) (epoch : ℕ) → EndpointWrote to n e links → EndpointWrote to n (lose epoch e) links
 unfolding lose
 outgoing_lose to n e links epoch h =
-    cond_both (is_linked e.phase && eqb epoch e.epoch) _ _ (λ (x : Endpoint). OutgoingOf to n x links) (λ yes. outgoing_discard h) (λ no. h)
+    cond_both (is_linked e.phase && eqb epoch e.epoch) _ _ (λ (x : Endpoint). EndpointWrote to n x links) (λ yes. outgoing_discard h) (λ no. h)
 
 write_last : (to : Side) (base : ℕ) (said : List SaidMessage) (received epoch : ℕ) (phase : Phase) (unwritten : List ℕ) (links : List Link) (f : Frame)
-    → Outgoing to base said received epoch (is_linked phase) unwritten links → IsHonest base (map body_of said) received f
-    → Outgoing to base said received epoch (is_linked phase) (unwritten ++ joined (when (is_linked phase) f)) links
-write_last to base said received epoch Away unwritten links f h honest = subst (λ (t : List ℕ). Outgoing to base said received epoch false t links) (sym (append-nil unwritten)) h
+    → HasWritten to base said received epoch (is_linked phase) unwritten links → IsHonest base (map body_of said) received f
+    → HasWritten to base said received epoch (is_linked phase) (unwritten ++ joined (when (is_linked phase) f)) links
+write_last to base said received epoch Away unwritten links f h honest = subst (λ (t : List ℕ). HasWritten to base said received epoch false t links) (sym (append-nil unwritten)) h
 write_last to base said received epoch Joining unwritten links f h honest = outgoing_write h (f ∷ []) refl (honest, tt)
 write_last to base said received epoch Up unwritten links f h honest = outgoing_write h (f ∷ []) refl (honest, tt)
-write_last to base said received epoch Ended unwritten links f h honest = subst (λ (t : List ℕ). Outgoing to base said received epoch false t links) (sym (append-nil unwritten)) h
+write_last to base said received epoch Ended unwritten links f h honest = subst (λ (t : List ℕ). HasWritten to base said received epoch false t links) (sym (append-nil unwritten)) h
 
-pub outgoing_leave : (to : Side) (n : ℕ) (e : Endpoint) (links : List Link) → OutgoingOf to n e links → OutgoingOf to n (leave e) links
+pub outgoing_leave : (to : Side) (n : ℕ) (e : Endpoint) (links : List Link) → EndpointWrote to n e links → EndpointWrote to n (leave e) links
 unfolding leave
 outgoing_leave to n e links h =
-    cond_both (not (is_ended e.phase)) _ _ (λ (x : Endpoint). OutgoingOf to n x links)
+    cond_both (not (is_ended e.phase)) _ _ (λ (x : Endpoint). EndpointWrote to n x links)
     (λ yes. outgoing_left (write_last to e.base e.said e.received n e.phase e.unwritten links disconnect_frame h (honest_plain e.base (map body_of e.said) e.received 5 0 [] (omega arith) (λ is. cc) (omega arith) h.ids (omega arith))))
     (λ no. h)
 
-pub outgoing_finish : (to : Side) (n : ℕ) (e : Endpoint) (links : List Link) (now : ℕ) → OutgoingOf to n e links → e.base ≤ e.acknowledged → OutgoingOf to n (finish now e) links
+pub outgoing_finish : (to : Side) (n : ℕ) (e : Endpoint) (links : List Link) (now : ℕ) → EndpointWrote to n e links → e.base ≤ e.acknowledged → EndpointWrote to n (finish now e) links
 unfolding finish owed rewritten
 outgoing_finish to n e links now h low =
-    cond_both (is_joining e.phase) _ _ (λ (x : Endpoint). OutgoingOf to n x links)
+    cond_both (is_joining e.phase) _ _ (λ (x : Endpoint). EndpointWrote to n x links)
     (λ yes. outgoing_replay to n e links (moment now e) (ack_frame e.received ∷ []) h low (linked_from_joining e.phase yes)
     (honest_plain e.base (map body_of e.said) e.received 3 e.received [] (omega arith) (λ is. cc) (omega arith) h.ids (omega arith), tt))
     (λ no. h)
@@ -287,13 +293,13 @@ stored_more received [] h = tt
 stored_more received (m ∷ ms) h = let low : m.ack ≤ received = h.0.ack in (record { ack = omega arith; body = h.0.body }, stored_more received ms h.1)
 
 -- a frame came, and its unread bytes are gone
-pub outgoing_came : (to : Side) (n : ℕ) (e : Endpoint) (links : List Link) (kind : FrameKind) (f : Frame) (now : ℕ) → OutgoingOf to n e links → e.base ≤ e.acknowledged → is_linked e.phase ≡ true
-    → (kind ≡ Regular → f.id ≡ suc e.received → suc e.received ≤ last_id) → OutgoingOf to n (on_frame kind f now e) links
+pub outgoing_came : (to : Side) (n : ℕ) (e : Endpoint) (links : List Link) (kind : FrameKind) (f : Frame) (now : ℕ) → EndpointWrote to n e links → e.base ≤ e.acknowledged → is_linked e.phase ≡ true
+    → (kind ≡ Regular → f.id ≡ suc e.received → suc e.received ≤ last_id) → EndpointWrote to n (on_frame kind f now e) links
 unfolding owed rewritten
 outgoing_came to n e links Regular f now h low up room =
-    cond_both (eqb f.id (suc e.received)) _ _ (λ (x : Endpoint). OutgoingOf to n x links)
+    cond_both (eqb f.id (suc e.received)) _ _ (λ (x : Endpoint). EndpointWrote to n x links)
     (λ yes. outgoing_grown h e.said (suc e.received) (record { still = λ n body at. at; more = omega arith }) h.count (room refl (eqb-true f.id (suc e.received) yes)) (stored_more e.received e.said h.stored))
-    (λ no. cond_both (ltb (suc e.received) f.id && not (asked_lately now e.timing)) _ _ (λ (x : Endpoint). OutgoingOf to n x links)
+    (λ no. cond_both (ltb (suc e.received) f.id && not (asked_lately now e.timing)) _ _ (λ (x : Endpoint). EndpointWrote to n x links)
     (λ yes. outgoing_plain to n e links replay_request h up (honest_plain e.base (map body_of e.said) e.received 6 0 [] (omega arith) (λ is. cc) (omega arith) h.ids (omega arith)))
     (λ _. h))
 outgoing_came to n e links Control f now h low up room = h
@@ -305,15 +311,15 @@ outgoing_came to n e links Resume f now h low up room = h
 outgoing_came to n e links Other f now h low up room = h
 
 -- a link begins
-pub outgoing_begin : (to : Side) (n link : ℕ) (e : Endpoint) (links : List Link) (epoch : ℕ) (chunk : List ℕ) (now : ℕ) → OutgoingOf to n e links → e.base ≤ e.acknowledged → n < link → link ≤ length links → can_begin epoch e ≡ true
-    → OutgoingOf to link (begin epoch chunk now e) links
+pub outgoing_begin : (to : Side) (n link : ℕ) (e : Endpoint) (links : List Link) (epoch : ℕ) (chunk : List ℕ) (now : ℕ) → EndpointWrote to n e links → e.base ≤ e.acknowledged → n < link → link ≤ length links → can_begin epoch e ≡ true
+    → EndpointWrote to link (begin epoch chunk now e) links
 unfolding begin owed rewritten
 outgoing_begin to n link e links epoch chunk now h low later there can =
-    cond_both (can_begin epoch e) _ _ (λ (x : Endpoint). OutgoingOf to link x links)
+    cond_both (can_begin epoch e) _ _ (λ (x : Endpoint). EndpointWrote to link x links)
     (λ yes.
     let fresh : Endpoint = on_link epoch chunk (moment now e) e in
-    let bare : OutgoingOf to link fresh links = outgoing_begun h link later there in
-    cond_both (eqb e.epoch 0) _ _ (λ (x : Endpoint). OutgoingOf to link x links)
+    let bare : EndpointWrote to link fresh links = outgoing_begun h link later there in
+    cond_both (eqb e.epoch 0) _ _ (λ (x : Endpoint). EndpointWrote to link x links)
     (λ first. outgoing_rewritten to link fresh links (moment now e) true (joined (replay fresh)) bare (outgoing_write bare (replay fresh) refl (replay_honest to link fresh links bare low)))
     (λ other. bare))
     (λ no. absurd (false≢true (sym no ∙ can)))

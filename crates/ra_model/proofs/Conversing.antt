@@ -26,7 +26,7 @@ use Rattle.ra_model.specs.Conversations.{Conversation, Step, conversation_after,
 use Rattle.ra_model.specs.Conversations.Step.{Says, Hears}
 use Rattle.ra_model.proofs.Calls.{messages_rewritten}
 use Rattle.ra_model.proofs.Takes.{messages_came}
-use Rattle.ra_model.proofs.Moves.{messages_begun, messages_fed}
+use Rattle.ra_model.proofs.LinkMoves.{messages_begun, messages_fed}
 use Rattle.ra_model.proofs.Sound.{Sound, from}
 use Rattle.ra_model.proofs.Runs.{called_over, sound_after, sound_new, end_none, says_free}
 use Rattle.ra_model.proofs.Takes.{view_take}

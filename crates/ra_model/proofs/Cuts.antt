@@ -1,5 +1,5 @@
 -- A byte text has a cut, and it goes on piece by piece.
-use Rattle.std.proofs.Common.{⊎_elim, false, ◌≡◌, ℕ, zero, suc, ◌<◌, ◌≤◌, true, ltb, Option, Some, None, List, [], ◌∷◌, ◌++◌, length, refl, ap, sym, ◌∙◌, subst, arith, append_assoc, length-append}
+use Rattle.std.proofs.Common.{⊎_elim, false, ◌≡◌, ℕ, zero, suc, ◌+◌, nat_le, ◌<◌, ◌≤◌, true, ltb, Option, Some, None, List, [], ◌∷◌, ◌++◌, length, refl, ap, sym, ◌∙◌, subst, arith, append_assoc, length-append}
 use Rattle.std.proofs.lemmas.Bool.{leb-true, ltb-true, le-leb, lt-leb, le-ltb, cases_lt, and_left, and_right, and_parts, and_from}
 use Rattle.std.proofs.lemmas.Option.{cond_some}
 use Rattle.std.proofs.lemmas.List.Concat.{flat_map-append}
@@ -63,9 +63,12 @@ has_cut text fits = has_cut_within (length text) text (omega arith) fits
 pub too_long-none : (text : List ℕ) → is_too_long text ≡ true → HoldsNoFrame text
 unfolding is_too_long first_frame has_frame
 too_long-none text is f more fits whole =
-    let above : body_limit < stated text = ltb-true body_limit (stated text) (and_parts _ _ is).1 in
+    let long : (nat_le (header_len (is_wide text)) (length text) ≡ true) × (ltb body_limit (stated text) ≡ true) = and_parts _ _ is in
+    let above : body_limit < stated text = ltb-true body_limit (stated text) long.1 in
     let found : first_frame text ≡ Some (f, more) = first_frame-begins text f more (record { fits = fits; whole = whole }) in
-    let small : stated text ≤ body_limit = leb-true (stated text) body_limit (and_parts _ _ (and_parts _ _ (cond_some _ _ _ found).0).1).0 in
+    let has : has_frame (is_wide text) (stated text) text ≡ true = (cond_some _ _ _ found).0 in
+    let inner : (nat_le (stated text) body_limit ≡ true) × (nat_le (header_len (is_wide text) + stated text) (length text) ≡ true) = and_parts _ _ (and_parts _ _ has).1 in
+    let small : stated text ≤ body_limit = leb-true (stated text) body_limit inner.0 in
     absurd (omega arith)
 
 -- and stays so, whatever comes

@@ -1,13 +1,14 @@
 -- The frames of a text, computed: one frame on, at the end, and as the text goes on.
-use Rattle.std.proofs.Common.{◌≡◌, ℕ, zero, suc, ◌+◌, ◌-◌, ◌<◌, ◌≤◌, Bool, false, Option, Some, None, List, [], ◌∷◌, ◌++◌, length, drop, refl, ap, sym, ◌∙◌, subst, arith, append_assoc, length-append}
-use Rattle.std.proofs.lemmas.Bool.{leb-true, and_parts}
-use Rattle.std.proofs.lemmas.Option.{cond_some}
-use Rattle.std.proofs.lemmas.List.{append-nil, length-drop, length-take, drop-drop, drop-append-le}
+use Rattle.std.proofs.Common.{⊎_elim, ◌≡◌, ℕ, zero, suc, ◌+◌, ◌*◌, ◌-◌, ◌<◌, ◌≤◌, Bool, true, false, Option, Some, None, List, [], ◌∷◌, ◌++◌, length, drop, refl, ap, sym, ◌∙◌, subst, arith, append_assoc, length-append}
+use Rattle.std.proofs.lemmas.Bool.{leb-true, and_parts, cond-true, cases_lt}
+use Rattle.std.proofs.lemmas.Option.{cond_some, none-some}
+use Rattle.std.proofs.lemmas.List.{append-nil, length-drop, length-take, drop-drop, drop-append-le, get_or_append_left}
+use Rattle.std.specs.Prelude.{nat_le}
 use Rattle.ra_model.specs.declared.frame.Frame.{Frame}
-use Rattle.ra_model.specs.Frames.{IsBytes, IsCut, Begins, frame_bytes}
+use Rattle.ra_model.specs.Frames.{body_limit, IsBytes, IsCut, Begins, frame_bytes}
 use Rattle.ra_model.specs.FirstFrame.{first_frame, split_frame, has_frame, is_wide, is_too_long, header_len, stated}
 use Rattle.ra_model.specs.Cutting.{cut_from, cut_within, frames_of, rest_of, IsCarry}
-use Rattle.ra_model.proofs.Framing.{first_frame-none, first_frame-nil, first_frame_more, header_some, length-frame_bytes, cut_unique}
+use Rattle.ra_model.proofs.Framing.{first_frame-none, first_frame-nil, first_frame_more, header_some, length-frame_bytes, cut_unique, header_more, has_from}
 use Rattle.ra_model.proofs.Reading.{first_frame-some}
 use Rattle.ra_model.proofs.Cuts.{cut_cons, cut_nil, bytes_right}
 
@@ -195,3 +196,66 @@ carry_cut text frames rest fits c =
     let is = carry_is text frames rest c in
     let first : IsCut text frames (rest_of text) = subst (λ (fs : List Frame). IsCut text fs (rest_of text)) is.0 (is_cut text fits) in
     subst (λ (t : List ℕ). IsCut text frames t) is.1 first
+
+-- How many frames there are
+
+header_least : (wide : Bool) → 13 ≤ header_len wide
+header_least true = omega arith
+header_least false = omega arith
+
+fewer_at : (n : ℕ) (text : List ℕ) (found : Option (Frame × List ℕ)) → first_frame text ≡ found → length text ≤ suc n
+    → ((rest : List ℕ) → length rest ≤ n → 13 * length (frames_of rest) ≤ length rest) → 13 * length (frames_of text) ≤ length text
+fewer_at n text None is size next = rw (frames_none text is).0 (omega arith)
+fewer_at n text (Some found) is size next =
+    let shorter : length text ≡ length (frame_bytes found.0) + length found.1 = found_shorter text found.0 found.1 is in
+    let some : 13 ≤ length (frame_bytes found.0) = omega (arith, length-frame_bytes found.0, header_least found.0.wide) in
+    let fits : length found.1 ≤ n = omega arith in
+    let behind : 13 * length (frames_of found.1) ≤ length found.1 = next found.1 fits in
+    rw (frames_step text found.0 found.1 is).0 (omega arith)
+
+fewer_within : (n : ℕ) (text : List ℕ) → length text ≤ n → 13 * length (frames_of text) ≤ length text
+fewer_within zero [] size = rw (frames_none [] first_frame-nil).0 (omega arith)
+fewer_within zero (b ∷ text) size = absurd (omega arith)
+fewer_within (suc n) text size = fewer_at n text (first_frame text) refl size (fewer_within n)
+
+-- each has at least 13 bytes
+pub frames_fit : (text : List ℕ) → 13 * length (frames_of text) ≤ length text
+frames_fit text = fewer_within (length text) text (omega arith)
+
+-- a frame that is whole within a text is found in it
+found_within : (text more : List ℕ) (f : Frame) (rest : List ℕ) → first_frame (text ++ more) ≡ Some (f, rest) → length (frame_bytes f) ≤ length text → first_frame text ≡ None → ⊥
+unfolding first_frame has_frame
+found_within text more f rest is fits none =
+    let whole : List ℕ = text ++ more in
+    let two : (has_frame (is_wide whole) (stated whole) whole ≡ true) × (split_frame (is_wide whole) (stated whole) whole ≡ (f, rest)) = cond_some _ _ _ is in
+    let inner : (nat_le (stated whole) body_limit ≡ true) × (nat_le (header_len (is_wide whole) + stated whole) (length whole) ≡ true) = and_parts _ _ (and_parts _ _ two.0).1 in
+    let there : header_len (is_wide whole) + stated whole ≤ length whole = leb-true (header_len (is_wide whole) + stated whole) (length whole) inner.1 in
+    let low : stated whole ≤ body_limit = leb-true (stated whole) body_limit inner.0 in
+    let parts = split_len (is_wide whole) (stated whole) whole there in
+    let size : length (frame_bytes f) ≡ header_len (is_wide whole) + stated whole = sym (ap (λ (p : Frame × List ℕ). length (frame_bytes p.0)) two.1) ∙ parts.0 in
+    let positive : 0 < header_len (is_wide whole) = header_some (is_wide whole) in
+    let some : 0 < length text = omega arith in
+    let wide : is_wide whole ≡ is_wide text = ap (λ (b : ℕ). nat_le 128 b) (get_or_append_left text more 0 0 some) in
+    let header : header_len (is_wide whole) ≤ length text = omega arith in
+    let header_there : header_len (is_wide text) ≤ length text = subst (λ (w : Bool). header_len w ≤ length text) wide header in
+    let same : stated whole ≡ stated text = (header_more text more header_there).1 in
+    let small : stated text ≤ body_limit = subst (λ (n : ℕ). n ≤ body_limit) same low in
+    let sum : header_len (is_wide whole) + stated whole ≤ length text = omega arith in
+    let room : header_len (is_wide text) + stated text ≤ length text =
+    subst (λ (n : ℕ). header_len (is_wide text) + n ≤ length text) same (subst (λ (w : Bool). header_len w + stated whole ≤ length text) wide sum) in
+    none-some _ (sym none ∙ cond-true _ _ _ (has_from (is_wide text) (stated text) text small room))
+
+few_at : (text piece : List ℕ) (found : Option (Frame × List ℕ)) (f : Frame) (frames : List Frame) → first_frame (text ++ piece) ≡ found → first_frame text ≡ None → frames_of (text ++ piece) ≡ f ∷ frames → 13 * length frames < length piece
+few_at text piece None f frames is none are = let nothing = (frames_none (text ++ piece) is).0 in absurd cc
+few_at text piece (Some found) f frames is none are =
+    let step : frames_of (text ++ piece) ≡ found.0 ∷ frames_of found.1 = (frames_step (text ++ piece) found.0 found.1 is).0 in
+    let others : frames ≡ frames_of found.1 = cc in
+    let count : length frames ≡ length (frames_of found.1) = ap (λ (fs : List Frame). length fs) others in
+    let longer : length (text ++ piece) ≡ length text + length piece = length-append text piece in
+    let shorter : length (text ++ piece) ≡ length (frame_bytes found.0) + length found.1 = found_shorter (text ++ piece) found.0 found.1 is in
+    let fits : 13 * length (frames_of found.1) ≤ length found.1 = frames_fit found.1 in
+    ⊎_elim (λ above. omega arith) (λ within. absurd (found_within text piece found.0 found.1 is within none)) (cases_lt (length text) (length (frame_bytes found.0)))
+
+-- where no frame was whole, a piece makes at most one more than its bytes have room for
+pub few_more : (text piece : List ℕ) (f : Frame) (frames : List Frame) → first_frame text ≡ None → frames_of (text ++ piece) ≡ f ∷ frames → 13 * length frames < length piece
+few_more text piece f frames none are = few_at text piece (first_frame (text ++ piece)) f frames refl none are

@@ -14,8 +14,9 @@ use Rattle.ra_base.specs.declared.event.Event.{Event}
 use Rattle.ra_base.specs.declared.event.Side.TheVariants.{A, B}
 use Rattle.ra_model.specs.Pairs.{body_of, messages, with_id, IsFront, IsJoining, IsUngapped, HearsInOrder, KeepsUnheard, WritesHonestly, ReadsInFrames, InEveryRun, AreHeardInOrder, AreKeptUntilHeard, AreWrittenHonestly, AreReadInFrames}
 use Rattle.ra_model.proofs.Calls.{get_map, get_from_drop, drop_next}
-use Rattle.ra_model.proofs.Sound.{View, from}
+use Rattle.ra_model.proofs.Sound.{from}
 use Rattle.ra_model.proofs.Runs.{sound_run, sound_new}
+use Rattle.ra_model.specs.Views.{View}
 
 pub length-numbered : (last : ℕ) (ms : List SaidMessage) → length (numbered last ms) ≡ length ms
 length-numbered last [] = refl
@@ -43,12 +44,13 @@ ungapped e low high = record {
   body = numbered_body e.base e.said (acknowledged_count e) (drop (acknowledged_count e) e.said) refl e.acknowledged (omega arith);
 }
 
-module _ {start : ℕ} {s : Side} {p o : Peer} {links : List Link} (v : View start s p.endpoint.epoch o.endpoint.epoch p o links) where
-  hears : HearsInOrder start p o
+-- what a view says of the messages that go from its endpoint to the peer, and of what its endpoint wrote and read
+module _ {start : ℕ} {s : Side} {i j : ℕ} {p o : Peer} {links : List Link} (v : View start s i j p o links) where
+  pub hears : HearsInOrder start p o
   hears = record { prefix = v.out.prefix; received = v.out.count }
 
-  writes_keep_alive : KeepsUnheard start p o
-  writes_keep_alive =
+  pub keeps_unheard : KeepsUnheard start p o
+  keeps_unheard =
       let heard : length (o.heard ++ v.out.prefix.0) ≡ length o.heard + length v.out.prefix.0 = length-append o.heard v.out.prefix.0 in
       let whole : length (o.heard ++ v.out.prefix.0) ≡ length (messages p.endpoint) = ap (λ (t : List (List ℕ)). length t) v.out.prefix.1 in
       let said : length (messages p.endpoint) ≡ length p.endpoint.said = length-map p.endpoint.said body_of in
@@ -57,22 +59,22 @@ module _ {start : ℕ} {s : Side} {p o : Peer} {links : List Link} (v : View sta
       let base : p.endpoint.base ≡ start = v.base in
       record { acknowledged = acked; sent = omega arith; queue = ungapped p.endpoint (omega arith) (omega arith) }
 
-  writes_honestly : WritesHonestly start (other s) p links
+  pub writes_honestly : WritesHonestly start (other s) i p links
   writes_honestly =
-      let Front : ℕ → List ℕ → Type 0 = λ i t. IsFront start (messages p.endpoint) i t in
-      let Joining : ℕ → List ℕ → Type 0 = λ i t. IsJoining start (messages p.endpoint) i t in
+      let Front : ℕ → List ℕ → Type 0 = λ n t. IsFront start (messages p.endpoint) n t in
+      let Joining : ℕ → List ℕ → Type 0 = λ n t. IsJoining start (messages p.endpoint) n t in
       record {
-        front = λ n l at. subst (λ (i : ℕ). Front i (direction_to (other s) l).written) v.back.count
+        front = λ n l at. subst (λ (n : ℕ). Front n (direction_to (other s) l).written) v.back.count
             (subst (λ (b : ℕ). IsFront b (messages p.endpoint) p.endpoint.received (direction_to (other s) l).written) v.base (v.mine.texts n l at));
-        whole = λ l at kept up. subst (λ (i : ℕ). Joining i ((direction_to (other s) l).written ++ p.endpoint.unwritten)) v.back.count
+        whole = λ l at kept up. subst (λ (n : ℕ). Joining n ((direction_to (other s) l).written ++ p.endpoint.unwritten)) v.back.count
             (subst (λ (b : ℕ). IsJoining b (messages p.endpoint) p.endpoint.received ((direction_to (other s) l).written ++ p.endpoint.unwritten)) v.base (v.mine.whole l at kept up));
       }
 
-  reads_in_frames : ReadsInFrames s p links
+  pub reads_in_frames : ReadsInFrames s i p links
   reads_in_frames = record { inside = v.reads.inside; each = v.reads.frames; carry = v.reads.carry }
 
 -- each run, from one endpoint
-view_of : (base : ℕ) (events : List Event) (s : Side) → base ≤ last_id → let w = run events (new_world base) in View base s (peer s w).endpoint.epoch (peer (other s) w).endpoint.epoch (peer s w) (peer (other s) w) w.links
+pub view_of : (base : ℕ) (events : List Event) (s : Side) → base ≤ last_id → let w = run events (new_world base) in View base s (peer s w).endpoint.epoch (peer (other s) w).endpoint.epoch (peer s w) (peer (other s) w) w.links
 view_of base events s fits = from base s (run events (new_world base)) (sound_run base events (new_world base) (sound_new base fits))
 
 pub heard : InEveryRun AreHeardInOrder
@@ -80,8 +82,8 @@ heard base events A fits = hears (view_of base events B fits)
 heard base events B fits = hears (view_of base events A fits)
 
 pub kept : InEveryRun AreKeptUntilHeard
-kept base events A fits = writes_keep_alive (view_of base events B fits)
-kept base events B fits = writes_keep_alive (view_of base events A fits)
+kept base events A fits = keeps_unheard (view_of base events B fits)
+kept base events B fits = keeps_unheard (view_of base events A fits)
 
 pub written : InEveryRun AreWrittenHonestly
 written base events A fits = writes_honestly (view_of base events B fits)

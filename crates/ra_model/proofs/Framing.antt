@@ -79,7 +79,7 @@ read wide n text = cond (has_frame wide n text) (Some (split_frame wide n text))
 made : ℕ → Bool → ℕ → ℕ → List ℕ → List ℕ → Frame × List ℕ
 made kind wide id ack body rest = (record { kind = kind; wide = wide; id = id; ack = ack; body = body }, rest)
 
-has_from : (wide : Bool) (n : ℕ) (text : List ℕ) → n ≤ body_limit → header_len wide + n ≤ length text → has_frame wide n text ≡ true
+pub has_from : (wide : Bool) (n : ℕ) (text : List ℕ) → n ≤ body_limit → header_len wide + n ≤ length text → has_frame wide n text ≡ true
 unfolding has_frame
 has_from wide n text small whole =
     and_from _ _ (le-leb (header_len wide) (length text) (omega arith)) (and_from _ _ (le-leb n body_limit small) (le-leb (header_len wide + n) (length text) whole))

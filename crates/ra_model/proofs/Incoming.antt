@@ -17,16 +17,7 @@ use Rattle.ra_model.specs.Pairs.{body_of, IsHonest, AllHonest}
 use Rattle.ra_model.proofs.Framing.{first_of_joined, rest_of_joined}
 use Rattle.ra_model.proofs.Honesty.{at_number_more, all_append, all_right, all_fit}
 use Rattle.ra_model.proofs.Numbers.{at_number_push, at_number_old, put_cases, put_same, put_other}
-use Rattle.ra_model.proofs.Outgoing.{Outgoing}
-
-pub record Incoming (to : Side) (epoch : ℕ) (linked : Bool) (unread : List ℕ) (applied : List Frame) (links : List Link) : Type 0 where
-  pub inside : (n : ℕ) (l : Link) → at_number links n ≡ Some l → (direction_to to l).read ≤ length (direction_to to l).written
-  -- of later links nothing was read
-  pub fresh : (n : ℕ) (l : Link) → at_number links n ≡ Some l → epoch < n → (direction_to to l).read ≡ 0
-  pub frames : AllByRecursion IsFrame applied
-  pub there : linked ≡ true → (l : Link) × (at_number links epoch ≡ Some l)
-  -- what was read of the present link is the frames that were applied, and what is unread
-  pub carry : (l : Link) → at_number links epoch ≡ Some l → linked ≡ true → take (direction_to to l).read (direction_to to l).written ≡ joined applied ++ unread
+use Rattle.ra_model.specs.Views.{HasRead, HasWritten}
 
 head_honest : (base : ℕ) (said : List (List ℕ)) (received : ℕ) (f : Frame) (fs : List Frame) → AllHonest base said received (f ∷ fs) → IsHonest base said received f
 head_honest base said received f fs h = h.0
@@ -35,9 +26,9 @@ new_is_unread : (to : Side) → (direction_to to new_link).read ≡ 0
 new_is_unread A = refl
 new_is_unread B = refl
 
-module _ {to : Side} {epoch : ℕ} {linked : Bool} {unread : List ℕ} {applied : List Frame} {links : List Link} (h : Incoming to epoch linked unread applied links) where
+module _ {to : Side} {epoch : ℕ} {linked : Bool} {unread : List ℕ} {applied : List Frame} {links : List Link} (h : HasRead to epoch linked unread applied links) where
   -- the link is gone
-  pub incoming_lost : (unread' : List ℕ) (applied' : List Frame) → AllByRecursion IsFrame applied' → Incoming to epoch false unread' applied' links
+  pub incoming_lost : (unread' : List ℕ) (applied' : List Frame) → AllByRecursion IsFrame applied' → HasRead to epoch false unread' applied' links
   incoming_lost unread' applied' frames = record {
     inside = h.inside;
     fresh = h.fresh;
@@ -47,7 +38,7 @@ module _ {to : Side} {epoch : ℕ} {linked : Bool} {unread : List ℕ} {applied 
   }
 
   -- a frame is applied
-  pub incoming_took : (f : Frame) (rest : List ℕ) → IsFrame f → unread ≡ frame_bytes f ++ rest → Incoming to epoch linked rest (applied ++ f ∷ []) links
+  pub incoming_took : (f : Frame) (rest : List ℕ) → IsFrame f → unread ≡ frame_bytes f ++ rest → HasRead to epoch linked rest (applied ++ f ∷ []) links
   incoming_took f rest fits is = record {
     inside = h.inside;
     fresh = h.fresh;
@@ -61,7 +52,7 @@ module _ {to : Side} {epoch : ℕ} {linked : Bool} {unread : List ℕ} {applied 
 
   -- more of the present link is read
   pub incoming_fed : (k : ℕ) (l l' : Link) → at_number links epoch ≡ Some l → (direction_to to l').read ≡ (direction_to to l).read + k → (direction_to to l').written ≡ (direction_to to l).written → (direction_to to l).read + k ≤ length (direction_to to l).written
-      → Incoming to epoch linked (unread ++ take k (drop (direction_to to l).read (direction_to to l).written)) applied (put_number links epoch l')
+      → HasRead to epoch linked (unread ++ take k (drop (direction_to to l).read (direction_to to l).written)) applied (put_number links epoch l')
   incoming_fed k l l' at read same fits = record {
     frames = h.frames;
     inside = λ m x is. ⊎_elim (λ p. subst (λ (y : Link). (direction_to to y).read ≤ length (direction_to to y).written) p.1 (rw (read, same) fits)) (λ p. h.inside m x p.1) (put_cases links epoch m l' x is);
@@ -78,7 +69,7 @@ module _ {to : Side} {epoch : ℕ} {linked : Bool} {unread : List ℕ} {applied 
 
   -- a later link begins, with what is read of it at once
   pub incoming_begun : (epoch' k : ℕ) (l l' : Link) → epoch < epoch' → at_number links epoch' ≡ Some l → (direction_to to l').read ≡ (direction_to to l).read + k → (direction_to to l').written ≡ (direction_to to l).written → (direction_to to l).read + k ≤ length (direction_to to l).written
-      → Incoming to epoch' true (take k (drop (direction_to to l).read (direction_to to l).written)) [] (put_number links epoch' l')
+      → HasRead to epoch' true (take k (drop (direction_to to l).read (direction_to to l).written)) [] (put_number links epoch' l')
   incoming_begun epoch' k l l' later at read same fits =
       let nothing : (direction_to to l).read ≡ 0 = h.fresh epoch' l at later in
       record {
@@ -95,7 +86,7 @@ module _ {to : Side} {epoch : ℕ} {linked : Bool} {unread : List ℕ} {applied 
       }
 
   -- another link is made
-  pub incoming_linked : epoch ≤ length links → Incoming to epoch linked unread applied (links ++ new_link ∷ [])
+  pub incoming_linked : epoch ≤ length links → HasRead to epoch linked unread applied (links ++ new_link ∷ [])
   incoming_linked known = record {
     frames = h.frames;
     inside = λ m x is. ⊎_elim (λ old. h.inside m x old) (λ p. subst (λ (y : Link). (direction_to to y).read ≤ length (direction_to to y).written) p (rw (new_is_unread to) (omega arith))) (at_number_push links new_link m x is);
@@ -106,7 +97,7 @@ module _ {to : Side} {epoch : ℕ} {linked : Bool} {unread : List ℕ} {applied 
 
   -- a link is written on, cut, or read in the other direction
   pub incoming_elsewhere : (n : ℕ) (l l' : Link) (more : List ℕ) → at_number links n ≡ Some l → (direction_to to l').read ≡ (direction_to to l).read → (direction_to to l').written ≡ (direction_to to l).written ++ more
-      → Incoming to epoch linked unread applied (put_number links n l')
+      → HasRead to epoch linked unread applied (put_number links n l')
   incoming_elsewhere n l l' more at read longer =
       let fits : (direction_to to l).read ≤ length (direction_to to l).written = h.inside n l at in
       record {
@@ -125,7 +116,7 @@ module _ {to : Side} {epoch : ℕ} {linked : Bool} {unread : List ℕ} {applied 
       }
 
   -- what is unread is the front of honest frames, since what its peer wrote is
-  pub unread_honest : {base : ℕ} {said : List SaidMessage} {received epoch' : ℕ} {linked' : Bool} {unwritten : List ℕ} → Outgoing to base said received epoch' linked' unwritten links → linked ≡ true
+  pub unread_honest : {base : ℕ} {said : List SaidMessage} {received epoch' : ℕ} {linked' : Bool} {unwritten : List ℕ} → HasWritten to base said received epoch' linked' unwritten links → linked ≡ true
       → (behind : List ℕ) × (frames : List Frame) × AllHonest base (map body_of said) received frames × (unread ++ behind ≡ joined frames)
   unread_honest {base} {said} {received} outgoing up =
       let at = h.there up in
@@ -143,7 +134,7 @@ module _ {to : Side} {epoch : ℕ} {linked : Bool} {unread : List ℕ} {applied 
       (behind, others.0, all_right (IsHonest base (map body_of said) received) applied others.0 (subst (λ (fs : List Frame). AllHonest base (map body_of said) received fs) others.1 front.1.1), others.2)
 
   -- so the next frame is honest
-  pub next_is_honest : {base : ℕ} {said : List SaidMessage} {received epoch' : ℕ} {linked' : Bool} {unwritten : List ℕ} → Outgoing to base said received epoch' linked' unwritten links → linked ≡ true
+  pub next_is_honest : {base : ℕ} {said : List SaidMessage} {received epoch' : ℕ} {linked' : Bool} {unwritten : List ℕ} → HasWritten to base said received epoch' linked' unwritten links → linked ≡ true
       → (f : Frame) (rest : List ℕ) → first_frame unread ≡ Some (f, rest) → IsHonest base (map body_of said) received f × (unread ≡ frame_bytes f ++ rest)
   next_is_honest {base} {said} {received} outgoing up f rest is =
       let unread_is = unread_honest outgoing up in
@@ -151,7 +142,7 @@ module _ {to : Side} {epoch : ℕ} {linked : Bool} {unread : List ℕ} {applied 
       (head_honest base (map body_of said) received f first.0 (subst (λ (fs : List Frame). AllHonest base (map body_of said) received fs) first.1 unread_is.2), first.3)
 
   -- and no header states too long a body
-  pub unread_within : {base : ℕ} {said : List SaidMessage} {received epoch' : ℕ} {linked' : Bool} {unwritten : List ℕ} → Outgoing to base said received epoch' linked' unwritten links → linked ≡ true → is_too_long unread ≡ false
+  pub unread_within : {base : ℕ} {said : List SaidMessage} {received epoch' : ℕ} {linked' : Bool} {unwritten : List ℕ} → HasWritten to base said received epoch' linked' unwritten links → linked ≡ true → is_too_long unread ≡ false
   unread_within {base} {said} {received} outgoing up =
       let unread_is = unread_honest outgoing up in
       not_too_long unread_is.1 (all_fit base (map body_of said) received unread_is.1 unread_is.2) unread unread_is.0 unread_is.3

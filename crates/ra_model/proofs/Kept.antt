@@ -9,14 +9,12 @@ use Rattle.ra_model.specs.Calls.{rewritten, moment, can_say, say, control, ask_p
 use Rattle.ra_model.specs.Links.{Link}
 use Rattle.ra_base.specs.declared.event.Side.{Side}
 use Rattle.ra_model.specs.Pairs.{body_of, messages}
-use Rattle.ra_model.proofs.Incoming.{Incoming, incoming_lost}
+use Rattle.ra_model.proofs.Incoming.{incoming_lost}
 use Rattle.ra_model.proofs.Calls.{messages_rewritten, linked_from_joining}
-
-abbrev pub IncomingOf : Side → ℕ → Endpoint → List Frame → List Link → Type 0
-IncomingOf to n e applied links = Incoming to n (is_linked e.phase) e.unread applied links
+use Rattle.ra_model.specs.Views.{EndpointRead, HasRead}
 
 pub record Kept (e e' : Endpoint) : Type 0 where
-  pub incoming : (to : Side) (n : ℕ) (applied : List Frame) (links : List Link) → IncomingOf to n e applied links → IncomingOf to n e' applied links
+  pub incoming : (to : Side) (n : ℕ) (applied : List Frame) (links : List Link) → EndpointRead to n e applied links → EndpointRead to n e' applied links
   pub base : e'.base ≡ e.base
   pub epoch : e'.epoch ≡ e.epoch
   pub received : e'.received ≡ e.received
@@ -25,11 +23,14 @@ pub record Kept (e e' : Endpoint) : Type 0 where
   pub said : messages e' ≡ messages e ++ more
 
 -- nothing but what is unwritten, told, paused and timed may change
-kept_all : (e e' : Endpoint) → e'.base ≡ e.base → ((to : Side) (n : ℕ) (applied : List Frame) (links : List Link) → IncomingOf to n e applied links → IncomingOf to n e' applied links) → e'.epoch ≡ e.epoch → e'.received ≡ e.received → e'.acknowledged ≡ e.acknowledged → messages e' ≡ messages e → Kept e e'
+kept_all : (e e' : Endpoint) → e'.base ≡ e.base → ((to : Side) (n : ℕ) (applied : List Frame) (links : List Link) → EndpointRead to n e applied links → EndpointRead to n e' applied links) → e'.epoch ≡ e.epoch → e'.received ≡ e.received → e'.acknowledged ≡ e.acknowledged → messages e' ≡ messages e → Kept e e'
 kept_all e e' base incoming epoch received acknowledged said = record { base = base; incoming = incoming; epoch = epoch; received = received; acknowledged = acknowledged; more = []; said = said ∙ sym (append-nil (messages e)) }
 
 pub kept_same : (e : Endpoint) → Kept e e
 kept_same e = kept_all e e refl (λ to n applied links c. c) refl refl refl refl
+
+pub kept_unwritten : (e : Endpoint) (text : List ℕ) → Kept e (record e { unwritten = text })
+kept_unwritten e text = kept_all e _ refl (λ to n applied links c. c) refl refl refl refl
 
 pub kept_say : (body : List ℕ) (now : ℕ) (e : Endpoint) → Kept e (say body now e)
 unfolding say
@@ -78,5 +79,5 @@ pub kept_finish : (now : ℕ) (e : Endpoint) → Kept e (finish now e)
 unfolding finish rewritten owed
 kept_finish now e =
     cond_both (is_joining e.phase) _ _ (λ (x : Endpoint). Kept e x)
-    (λ yes. kept_all e _ refl (λ to n applied links c. subst (λ (b : Bool). Incoming to n b e.unread applied links) (linked_from_joining e.phase yes) c) refl refl refl (messages_rewritten (moment now e) e))
+    (λ yes. kept_all e _ refl (λ to n applied links c. subst (λ (b : Bool). HasRead to n b e.unread applied links) (linked_from_joining e.phase yes) c) refl refl refl (messages_rewritten (moment now e) e))
     (λ no. kept_same e)

@@ -25,7 +25,7 @@ use Rattle.ra_base.specs.declared.event.Event.TheVariants.{Link as LinkMade, At,
 use Rattle.ra_model.specs.Pairs.{body_of, messages, IsPrefixOf, IsLater}
 use Rattle.ra_model.proofs.Kept.{Kept, kept_say, kept_control, kept_pause, kept_resume, kept_tick, kept_lose, kept_leave, kept_finish, kept_wrote}
 use Rattle.ra_model.proofs.Takes.{messages_came, acknowledged_came, base_came}
-use Rattle.ra_model.proofs.Moves.{messages_begun, acknowledged_begun, base_begun, received_begun, messages_fed, acknowledged_fed, base_fed, received_fed}
+use Rattle.ra_model.proofs.LinkMoves.{messages_begun, acknowledged_begun, base_begun, received_begun, messages_fed, acknowledged_fed, base_fed, received_fed}
 use Rattle.ra_model.proofs.Runs.{called_over}
 
 prefix_refl : {X : Type 0} → (xs : List X) → IsPrefixOf xs xs
@@ -47,7 +47,7 @@ later_from p q base said heard received acknowledged =
       sent = omega (arith, base, length-map p.endpoint.said body_of, length-map q.endpoint.said body_of);
     }
 
-later_refl : (p : Peer) → IsLater p p
+pub later_refl : (p : Peer) → IsLater p p
 later_refl p = later_from p p refl (prefix_refl (messages p.endpoint)) (prefix_refl p.heard) (omega arith) (omega arith)
 
 pub later_trans : (p q r : Peer) → IsLater p q → IsLater q r → IsLater p r
@@ -60,7 +60,7 @@ later_trans p q r a b =
       acknowledged = omega (arith, a.acknowledged, b.acknowledged);
     }
 
-later_call : (p : Peer) (e : Endpoint) → Kept p.endpoint e → IsLater p (with_endpoint e p)
+pub later_call : (p : Peer) (e : Endpoint) → Kept p.endpoint e → IsLater p (with_endpoint e p)
 later_call p e k =
     let received : e.received ≡ p.endpoint.received = k.received in
     let acknowledged : e.acknowledged ≡ p.endpoint.acknowledged = k.acknowledged in
@@ -94,17 +94,17 @@ later_took p now (Some next) =
     let acknowledged : (on_frame kind next.0 now e).acknowledged ≡ max p.endpoint.acknowledged (min next.0.ack (sent p.endpoint)) = acknowledged_came kind next.0 now e in
     later_from p _ (base_came kind next.0 now e) ([], append-nil (messages p.endpoint) ∙ sym (messages_came kind next.0 now e)) (heard_more (Some (delivery_of kind next.0 p.endpoint)) p.heard) (received_came kind next.0 now e) (omega arith)
 
-later_take : (p : Peer) (now : ℕ) → IsLater p (taken now p)
+pub later_take : (p : Peer) (now : ℕ) → IsLater p (taken now p)
 unfolding take_frame delivery
 later_take p now = later_took p (moment now p.endpoint) (next_frame p.endpoint)
 
-later_begun : (p : Peer) (link : ℕ) (chunk : List ℕ) (now : ℕ) → IsLater p (begun link chunk now p)
+pub later_begun : (p : Peer) (link : ℕ) (chunk : List ℕ) (now : ℕ) → IsLater p (begun link chunk now p)
 later_begun p link chunk now =
     let received : (begin link chunk now p.endpoint).received ≡ p.endpoint.received = received_begun link chunk now p.endpoint in
     let acknowledged : (begin link chunk now p.endpoint).acknowledged ≡ p.endpoint.acknowledged = acknowledged_begun link chunk now p.endpoint in
     later_from p (begun link chunk now p) (base_begun link chunk now p.endpoint) ([], append-nil (messages p.endpoint) ∙ sym (messages_begun link chunk now p.endpoint)) (prefix_refl p.heard) (omega arith) (omega arith)
 
-later_fed : (p : Peer) (link : ℕ) (piece : List ℕ) (now : ℕ) → IsLater p (with_endpoint (feed link piece now p.endpoint) p)
+pub later_fed : (p : Peer) (link : ℕ) (piece : List ℕ) (now : ℕ) → IsLater p (with_endpoint (feed link piece now p.endpoint) p)
 later_fed p link piece now =
     let received : (feed link piece now p.endpoint).received ≡ p.endpoint.received = received_fed link piece now p.endpoint in
     let acknowledged : (feed link piece now p.endpoint).acknowledged ≡ p.endpoint.acknowledged = acknowledged_fed link piece now p.endpoint in

@@ -5,40 +5,22 @@ use Rattle.ra_model.proofs.Numbers.{at_number_push, at_number_old, put_cases, le
 use Rattle.ra_base.specs.declared.event.Side.TheVariants.{A, B}
 use Rattle.std.proofs.Common.{◌≡◌, ℕ, ◌+◌, ◌<◌, ◌≤◌, Bool, true, false, Some, List, [], ◌∷◌, ◌++◌, length, map, take, drop, refl, ap, sym, ◌∙◌, subst, arith, append_assoc, ⊎_elim}
 use Rattle.std.specs.List.{AllByRecursion}
-use Rattle.ra_model.specs.Frames.{body_limit, last_id, joined}
+use Rattle.ra_model.specs.Frames.{last_id, joined}
 use Rattle.ra_model.specs.declared.frame.Frame.{Frame}
 use Rattle.ra_model.specs.Endpoints.{SaidMessage}
 use Rattle.ra_model.specs.Links.{Link, new_link, direction_to, at_number, put_number}
 use Rattle.ra_base.specs.declared.event.Side.{Side}
 use Rattle.ra_model.specs.Pairs.{body_of, AllHonest, IsJoining, IsFront}
 use Rattle.ra_model.proofs.Honesty.{Grown, joining_grown, front_grown, joining_append, front_from_joining, front_front, joining_nil}
-
--- a message may be written again: its ack is no more than was received, and its body fits
-pub record IsStored (received : ℕ) (m : SaidMessage) : Type 0 where
-  pub ack : m.ack ≤ received
-  pub body : length m.body ≤ body_limit
-
-pub record Outgoing (to : Side) (base : ℕ) (said : List SaidMessage) (received epoch : ℕ) (linked : Bool) (unwritten : List ℕ) (links : List Link) : Type 0 where
-  pub count : base + length said ≤ last_id
-  pub ids : received ≤ last_id
-  pub there : epoch ≤ length links
-  pub stored : AllByRecursion (IsStored received) said
-  -- each text that was written is a front of honest frames
-  pub texts : (n : ℕ) (l : Link) → at_number links n ≡ Some l → IsFront base (map body_of said) received (direction_to to l).written
-  -- so is the text of the present link with what is to be written on it
-  pub front : (l : Link) → at_number links epoch ≡ Some l → l.is_cut ≡ false → IsFront base (map body_of said) received ((direction_to to l).written ++ unwritten)
-  -- and it is whole while the link is kept
-  pub whole : (l : Link) → at_number links epoch ≡ Some l → l.is_cut ≡ false → linked ≡ true → IsJoining base (map body_of said) received ((direction_to to l).written ++ unwritten)
-  -- on later links too only whole honest frames were written
-  pub fresh : (n : ℕ) (l : Link) → at_number links n ≡ Some l → epoch < n → IsJoining base (map body_of said) received (direction_to to l).written
+use Rattle.ra_model.specs.Views.{HasWritten, IsStored}
 
 new_is_empty : (to : Side) → (direction_to to new_link).written ≡ []
 new_is_empty A = refl
 new_is_empty B = refl
 
-module _ {to : Side} {base : ℕ} {said : List SaidMessage} {received epoch : ℕ} {linked : Bool} {unwritten : List ℕ} {links : List Link} (h : Outgoing to base said received epoch linked unwritten links) where
+module _ {to : Side} {base : ℕ} {said : List SaidMessage} {received epoch : ℕ} {linked : Bool} {unwritten : List ℕ} {links : List Link} (h : HasWritten to base said received epoch linked unwritten links) where
   pub outgoing_grown : (said' : List SaidMessage) (received' : ℕ) → Grown (map body_of said) (map body_of said') received received' → base + length said' ≤ last_id → received' ≤ last_id → AllByRecursion (IsStored received') said'
-      → Outgoing to base said' received' epoch linked unwritten links
+      → HasWritten to base said' received' epoch linked unwritten links
   outgoing_grown said' received' g count some stored = record {
     count = count;
     ids = some;
@@ -51,7 +33,7 @@ module _ {to : Side} {base : ℕ} {said : List SaidMessage} {received epoch : �
   }
 
   -- honest frames are written
-  pub outgoing_write : (frames : List Frame) → linked ≡ true → AllHonest base (map body_of said) received frames → Outgoing to base said received epoch linked (unwritten ++ joined frames) links
+  pub outgoing_write : (frames : List Frame) → linked ≡ true → AllHonest base (map body_of said) received frames → HasWritten to base said received epoch linked (unwritten ++ joined frames) links
   outgoing_write frames up all =
       let more : (l : Link) → at_number links epoch ≡ Some l → l.is_cut ≡ false → IsJoining base (map body_of said) received ((direction_to to l).written ++ (unwritten ++ joined frames)) =
       λ l at kept. subst (λ (t : List ℕ). IsJoining base (map body_of said) received t) (append_assoc (direction_to to l).written unwritten (joined frames)) (joining_append base (map body_of said) received _ frames (h.whole l at kept up) all) in
@@ -67,7 +49,7 @@ module _ {to : Side} {base : ℕ} {said : List SaidMessage} {received epoch : �
       }
 
   -- the link is lost, or the peer ended: what is unwritten is discarded
-  pub outgoing_discard : Outgoing to base said received epoch false [] links
+  pub outgoing_discard : HasWritten to base said received epoch false [] links
   outgoing_discard = record {
     count = h.count;
     ids = h.ids;
@@ -80,7 +62,7 @@ module _ {to : Side} {base : ℕ} {said : List SaidMessage} {received epoch : �
   }
 
   -- the endpoint leaves, and what is unwritten may still be written
-  pub outgoing_left : Outgoing to base said received epoch false unwritten links
+  pub outgoing_left : HasWritten to base said received epoch false unwritten links
   outgoing_left = record {
     count = h.count;
     ids = h.ids;
@@ -93,7 +75,7 @@ module _ {to : Side} {base : ℕ} {said : List SaidMessage} {received epoch : �
   }
 
   -- a later link begins
-  pub outgoing_begun : (epoch' : ℕ) → epoch < epoch' → epoch' ≤ length links → Outgoing to base said received epoch' true [] links
+  pub outgoing_begun : (epoch' : ℕ) → epoch < epoch' → epoch' ≤ length links → HasWritten to base said received epoch' true [] links
   outgoing_begun epoch' later there =
       let nothing : (l : Link) → at_number links epoch' ≡ Some l → IsJoining base (map body_of said) received ((direction_to to l).written ++ []) =
       λ l at. subst (λ (t : List ℕ). IsJoining base (map body_of said) received t) (sym (append-nil (direction_to to l).written)) (h.fresh epoch' l at later) in
@@ -109,7 +91,7 @@ module _ {to : Side} {base : ℕ} {said : List SaidMessage} {received epoch : �
       }
 
   -- another link is made
-  pub outgoing_linked : Outgoing to base said received epoch linked unwritten (links ++ new_link ∷ [])
+  pub outgoing_linked : HasWritten to base said received epoch linked unwritten (links ++ new_link ∷ [])
   outgoing_linked = record {
     count = h.count;
     ids = h.ids;
@@ -125,7 +107,7 @@ module _ {to : Side} {base : ℕ} {said : List SaidMessage} {received epoch : �
 
   -- a link is read or cut, or written on in the other direction
   pub outgoing_elsewhere : (n : ℕ) (l l' : Link) → at_number links n ≡ Some l → (direction_to to l').written ≡ (direction_to to l).written → (l'.is_cut ≡ false → l.is_cut ≡ false)
-      → Outgoing to base said received epoch linked unwritten (put_number links n l')
+      → HasWritten to base said received epoch linked unwritten (put_number links n l')
   outgoing_elsewhere n l l' at same kept =
       let Front : List ℕ → Type 0 = λ t. IsFront base (map body_of said) received t in
       let Joining : List ℕ → Type 0 = λ t. IsJoining base (map body_of said) received t in
@@ -148,7 +130,7 @@ module _ {to : Side} {base : ℕ} {said : List SaidMessage} {received epoch : �
 
   -- bytes are written on the present link, which is not cut
   pub outgoing_wrote : (k : ℕ) (l l' : Link) → at_number links epoch ≡ Some l → l.is_cut ≡ false → (direction_to to l').written ≡ (direction_to to l).written ++ take k unwritten
-      → Outgoing to base said received epoch linked (drop k unwritten) (put_number links epoch l')
+      → HasWritten to base said received epoch linked (drop k unwritten) (put_number links epoch l')
   outgoing_wrote k l l' at kept longer =
       let Front : List ℕ → Type 0 = λ t. IsFront base (map body_of said) received t in
       let Joining : List ℕ → Type 0 = λ t. IsJoining base (map body_of said) received t in
@@ -166,8 +148,26 @@ module _ {to : Side} {base : ℕ} {said : List SaidMessage} {received epoch : �
         fresh = λ m x is later. ⊎_elim (λ p. let e : m ≡ epoch = p.0 in absurd (omega arith)) (λ p. h.fresh m x p.1 later) (put_cases links epoch m l' x is);
       }
 
+  -- whole honest frames are written on a later link
+  pub outgoing_ahead : (n : ℕ) (l l' : Link) (frames : List Frame) → epoch < n → at_number links n ≡ Some l → (direction_to to l').written ≡ (direction_to to l).written ++ joined frames → AllHonest base (map body_of said) received frames
+      → HasWritten to base said received epoch linked unwritten (put_number links n l')
+  outgoing_ahead n l l' frames later at longer all =
+      let Front : List ℕ → Type 0 = λ t. IsFront base (map body_of said) received t in
+      let Joining : List ℕ → Type 0 = λ t. IsJoining base (map body_of said) received t in
+      let whole : Joining (direction_to to l').written = subst Joining (sym longer) (joining_append base (map body_of said) received (direction_to to l).written frames (h.fresh n l at later) all) in
+      record {
+        count = h.count;
+        ids = h.ids;
+        stored = h.stored;
+        there = rw (length-put_number links n l') h.there;
+        texts = λ m x is. ⊎_elim (λ p. subst (λ (y : Link). Front (direction_to to y).written) p.1 (front_from_joining base (map body_of said) received _ whole)) (λ p. h.texts m x p.1) (put_cases links n m l' x is);
+        front = λ x is k. ⊎_elim (λ p. let e : epoch ≡ n = p.0 in absurd (omega arith)) (λ p. h.front x p.1 k) (put_cases links n epoch l' x is);
+        whole = λ x is k up. ⊎_elim (λ p. let e : epoch ≡ n = p.0 in absurd (omega arith)) (λ p. h.whole x p.1 k up) (put_cases links n epoch l' x is);
+        fresh = λ m x is after. ⊎_elim (λ p. subst (λ (y : Link). Joining (direction_to to y).written) p.1 whole) (λ p. h.fresh m x p.1 after) (put_cases links n m l' x is);
+      }
+
   -- bytes vanish: the present link is cut, or there is none
-  pub outgoing_vanish : (k : ℕ) → ((l : Link) → at_number links epoch ≡ Some l → l.is_cut ≡ false → ⊥) → Outgoing to base said received epoch linked (drop k unwritten) links
+  pub outgoing_vanish : (k : ℕ) → ((l : Link) → at_number links epoch ≡ Some l → l.is_cut ≡ false → ⊥) → HasWritten to base said received epoch linked (drop k unwritten) links
   outgoing_vanish k gone = record {
     count = h.count;
     ids = h.ids;

@@ -1,4 +1,4 @@
--- Small runs, computed.
+-- Small runs and texts, computed.
 use Rattle.std.proofs.Common.{◌≡◌, ℕ, zero, suc, true, false, Option, Some, None, List, [], ◌∷◌, length, take, refl, arith}
 use Rattle.ra_model.proofs.Framing.{first_frame-none, first_frame-nil}
 use Rattle.ra_model.specs.Frames.{IsCut, frame_bytes, last_id}
@@ -13,11 +13,12 @@ use Rattle.ra_model.specs.declared.session.Entry.{Entry}
 use Rattle.ra_model.specs.declared.session.Up.TheVariants.{Message, Control as ControlBody, Quiet, Ended as Closed}
 use Rattle.ra_model.specs.Worlds.{new_world}
 use Rattle.ra_model.specs.Events.{run, effects, is_accepted, happens, effect}
-use Rattle.ra_model.specs.Refusals.{refusal}
+use Rattle.ra_model.specs.Refusals.{refusal, leave_refusal}
+use Rattle.ra_model.specs.Cutting.{cut_within, frames_of, rest_of}
 use Rattle.ra_base.specs.declared.event.Event.{Event}
 use Rattle.ra_base.specs.declared.event.Side.TheVariants.{A, B}
 use Rattle.ra_base.specs.declared.event.Count.TheVariants.{All, Exact}
-use Rattle.ra_model.specs.declared.fault.EndFault.TheVariants.{IdsSpent}
+use Rattle.ra_model.specs.declared.fault.EndFault.TheVariants.{Ended as HasEnded, IdsSpent}
 use Rattle.ra_model.specs.declared.fault.EventFault.TheVariants.{End as AtEnd}
 use Rattle.ra_base.specs.declared.event.Event.TheVariants.{Link as LinkMade, At, Begin, Finish, Say, Write, Read, Take, Tick, Lose, Cut}
 use Rattle.ra_model.specs.declared.effect.Effect.TheVariants.{Link as Linked, Done, Said as SaidId, Wrote, Read as ReadBytes, Up as HandedUp, Nothing, Ticked}
@@ -291,3 +292,43 @@ partial_wide_header = refl
 too_long_wide_body : is_too_long (129 ∷ 0 ∷ 0 ∷ 0 ∷ 0 ∷ 0 ∷ 0 ∷ 0 ∷ 1 ∷ 0 ∷ 0 ∷ 0 ∷ 0 ∷ 0 ∷ 0 ∷ 0 ∷ 0 ∷ 16 ∷ 0 ∷ 0 ∷ 1 ∷ []) ≡ true
 unfolding received linked_end after_piece flushed frame_bytes first_frame is_too_long watched timeout_served acknowledge_served keep_alive_served message_heard link_begun link_up alarms_cleared owed rewritten say control ask_pause ask_resume begin finish feed take_frame delivery tick times_out lose leave wrote refusal happens effect split_frame has_frame number_at written_frame
 too_long_wide_body = refl
+
+-- one message comes, and nothing is left
+one_message : received 1 (linked_end (1 ∷ 0 ∷ 0 ∷ 0 ∷ 1 ∷ 0 ∷ 0 ∷ 0 ∷ 0 ∷ 0 ∷ 0 ∷ 0 ∷ 2 ∷ 104 ∷ 105 ∷ [])) ≡ ((Some (Message 1 (104 ∷ 105 ∷ [])), []) ∷ [])
+unfolding received linked_end first_frame is_too_long watched link_begun link_up owed rewritten begin take_frame delivery wrote split_frame has_frame number_at written_frame
+one_message = refl
+
+one_message-rest : (take_frame 0 (linked_end (1 ∷ 0 ∷ 0 ∷ 0 ∷ 1 ∷ 0 ∷ 0 ∷ 0 ∷ 0 ∷ 0 ∷ 0 ∷ 0 ∷ 2 ∷ 104 ∷ 105 ∷ []))).unread ≡ []
+unfolding received linked_end first_frame is_too_long watched link_begun link_up owed rewritten begin take_frame delivery wrote split_frame has_frame number_at written_frame
+one_message-rest = refl
+
+-- nothing comes
+no_message : received 1 (linked_end []) ≡ ((None, []) ∷ [])
+unfolding received linked_end first_frame is_too_long watched link_begun link_up owed rewritten begin take_frame delivery wrote split_frame has_frame number_at written_frame
+no_message = refl
+
+no_message-rest : (take_frame 0 (linked_end [])).unread ≡ []
+unfolding received linked_end first_frame is_too_long watched link_begun link_up owed rewritten begin take_frame delivery wrote split_frame has_frame number_at written_frame
+no_message-rest = refl
+
+-- a header that lacks a byte stays unread
+short_header-rest : length (take_frame 0 (linked_end (1 ∷ 0 ∷ 0 ∷ 0 ∷ 1 ∷ 0 ∷ 0 ∷ 0 ∷ 0 ∷ 0 ∷ 0 ∷ 0 ∷ []))).unread ≡ 12
+unfolding received linked_end first_frame is_too_long watched link_begun link_up owed rewritten begin take_frame delivery wrote split_frame has_frame number_at written_frame
+short_header-rest = refl
+
+-- an endpoint is left once
+left_twice : leave_refusal (leave (control [] (ask_resume (ask_pause (linked_end []))))) ≡ Some HasEnded
+unfolding received linked_end first_frame is_too_long watched link_begun link_up owed rewritten begin take_frame delivery wrote split_frame has_frame number_at written_frame control ask_pause ask_resume leave
+left_twice = refl
+
+-- the cut of two frames and a byte more
+two_and_a_byte : List ℕ
+two_and_a_byte = (1 ∷ 0 ∷ 0 ∷ 0 ∷ 1 ∷ 0 ∷ 0 ∷ 0 ∷ 0 ∷ 0 ∷ 0 ∷ 0 ∷ 1 ∷ 97 ∷ 129 ∷ 0 ∷ 0 ∷ 0 ∷ 0 ∷ 0 ∷ 0 ∷ 0 ∷ 2 ∷ 0 ∷ 0 ∷ 0 ∷ 0 ∷ 0 ∷ 0 ∷ 0 ∷ 0 ∷ 0 ∷ 0 ∷ 0 ∷ 1 ∷ 98 ∷ 7 ∷ [])
+
+two_and_a_byte-frames : frames_of two_and_a_byte ≡ (record { kind = 1; wide = false; id = 1; ack = 0; body = 97 ∷ [] } ∷ record { kind = 1; wide = true; id = 2; ack = 0; body = 98 ∷ [] } ∷ [])
+unfolding frames_of cut_within first_frame split_frame has_frame number_at two_and_a_byte
+two_and_a_byte-frames = refl
+
+two_and_a_byte-rest : rest_of two_and_a_byte ≡ (7 ∷ [])
+unfolding rest_of cut_within first_frame split_frame has_frame number_at two_and_a_byte
+two_and_a_byte-rest = refl

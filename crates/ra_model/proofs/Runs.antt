@@ -3,7 +3,7 @@ use Rattle.std.proofs.Common.{◌≡◌, ℕ, ◌<◌, ◌≤◌, Bool, true, fa
 use Rattle.std.proofs.lemmas.Bool.{and_parts, ltb-true, eqb-true, ltb-false, le-leb, false≢true, and_from, not_from_false, leb-false, lt-ltb, not-false}
 use Rattle.ra_model.specs.Frames.{last_id}
 use Rattle.ra_model.specs.Frames.{body_limit}
-use Rattle.ra_model.specs.Endpoints.{Endpoint, sent, shown}
+use Rattle.ra_model.specs.Endpoints.{Endpoint, sent, shown, new_endpoint}
 use Rattle.ra_model.specs.Calls.{can_say, can_begin, can_feed, say, control, ask_pause, ask_resume, finish, feed, tick, lose, leave, wrote}
 use Rattle.ra_model.specs.declared.fault.EventFault.{EventFault as Fault}
 use Rattle.ra_model.specs.declared.fault.EndFault.{EndFault}
@@ -18,22 +18,22 @@ use Rattle.ra_base.specs.declared.event.Side.TheVariants.{A, B}
 use Rattle.ra_model.specs.declared.fault.EndFault.TheVariants.{IdsSpent, Stale}
 use Rattle.ra_base.specs.declared.event.Event.TheVariants.{Link as LinkMade, At, Begin, Finish, Say, Control, Pause, Resume, Leave, Write, Read, Take, Tick, Lose, Cut}
 use Rattle.ra_model.proofs.Numbers.{at_number-nil}
-use Rattle.ra_model.proofs.Outgoing.{Outgoing}
-use Rattle.ra_model.proofs.Incoming.{Incoming}
-use Rattle.ra_model.proofs.Calls.{OutgoingOf, outgoing_say, outgoing_control, outgoing_pause, outgoing_resume, outgoing_tick, outgoing_lose, outgoing_leave, outgoing_finish}
+use Rattle.ra_model.proofs.Calls.{outgoing_say, outgoing_control, outgoing_pause, outgoing_resume, outgoing_tick, outgoing_lose, outgoing_leave, outgoing_finish}
 use Rattle.ra_model.proofs.Kept.{Kept, kept_wrote, kept_say, kept_control, kept_pause, kept_resume, kept_tick, kept_lose, kept_leave, kept_finish}
-use Rattle.ra_model.proofs.Sound.{View, Sound, Agrees, from, back_to, view_call}
+use Rattle.ra_model.proofs.Sound.{Sound, from, back_to, view_call}
+use Rattle.ra_model.proofs.Away.{away_finish, away_say, away_control, away_pause, away_resume, away_leave, away_tick, away_lose}
 use Rattle.ra_model.proofs.Takes.{view_take, epoch_taken}
-use Rattle.ra_model.proofs.Moves.{epoch_begun, epoch_fed, view_begin, view_feed, view_write, view_linked, view_cut, amount_there}
+use Rattle.ra_model.proofs.LinkMoves.{epoch_begun, epoch_fed, view_begin, view_feed, view_write, view_linked, view_cut, amount_there}
+use Rattle.ra_model.specs.Views.{Agrees, EndpointWrote, HasRead, HasWritten, IsEmptyAway, View, new_peer}
 
-sound_call : (start : ℕ) (s : Side) (w : World) (call : Endpoint → Endpoint) → Sound start w → Kept (peer s w).endpoint (call (peer s w).endpoint) → OutgoingOf (other s) (peer s w).endpoint.epoch (call (peer s w).endpoint) w.links
+sound_call : (start : ℕ) (s : Side) (w : World) (call : Endpoint → Endpoint) → Sound start w → Kept (peer s w).endpoint (call (peer s w).endpoint) → EndpointWrote (other s) (peer s w).endpoint.epoch (call (peer s w).endpoint) w.links → IsEmptyAway (call (peer s w).endpoint)
     → Sound start (on_endpoint s call w)
-sound_call start s w call h kept outgoing =
+sound_call start s w call h kept outgoing away =
     let e : Endpoint = (peer s w).endpoint in
     let o : Peer = peer (other s) w in
     back_to start s w (with_endpoint (call e) (peer s w)) w.links
     (subst (λ (n : ℕ). View start s n o.endpoint.epoch (with_endpoint (call e) (peer s w)) o w.links) (sym kept.epoch)
-    (view_call start s e.epoch o.endpoint.epoch (peer s w) o w.links (call e) (from start s w h) kept outgoing))
+    (view_call start s e.epoch o.endpoint.epoch (peer s w) o w.links (call e) (from start s w h) kept outgoing away))
 
 or_none : {X : Type 0} → (a b : Option X) → or_fault a b ≡ None → (a ≡ None) × (b ≡ None)
 or_none None b h = (refl, h)
@@ -122,20 +122,20 @@ unfolding happens refusal
 sound_happens start LinkMade w h free = view_linked start A w.a.endpoint.epoch w.b.endpoint.epoch w.a w.b w.links h
 sound_happens start (At now) w h free = h
 sound_happens start (Begin s link count) w h free = sound_begins start s link count (at_number w.links link) w h refl (begins_free link (peer s w).endpoint (end_none _ (or_none _ _ free).1))
-sound_happens start (Finish s) w h free = sound_call start s w (finish w.now) h (kept_finish w.now (peer s w).endpoint) (outgoing_finish (other s) (peer s w).endpoint.epoch (peer s w).endpoint w.links w.now (from start s w h).mine (let v = from start s w h in rw v.base v.out.low))
-sound_happens start (Say s body) w h free = sound_call start s w (say body w.now) h (kept_say body w.now (peer s w).endpoint) (outgoing_say (other s) (peer s w).endpoint.epoch (peer s w).endpoint w.links body w.now (from start s w h).mine)
-sound_happens start (Control s body) w h free = sound_call start s w (control body) h (kept_control body (peer s w).endpoint) (outgoing_control (other s) (peer s w).endpoint.epoch (peer s w).endpoint w.links body (from start s w h).mine)
-sound_happens start (Pause s) w h free = sound_call start s w ask_pause h (kept_pause (peer s w).endpoint) (outgoing_pause (other s) (peer s w).endpoint.epoch (peer s w).endpoint w.links (from start s w h).mine)
-sound_happens start (Resume s) w h free = sound_call start s w ask_resume h (kept_resume (peer s w).endpoint) (outgoing_resume (other s) (peer s w).endpoint.epoch (peer s w).endpoint w.links (from start s w h).mine)
-sound_happens start (Leave s) w h free = sound_call start s w leave h (kept_leave (peer s w).endpoint) (outgoing_leave (other s) (peer s w).endpoint.epoch (peer s w).endpoint w.links (from start s w h).mine)
+sound_happens start (Finish s) w h free = sound_call start s w (finish w.now) h (kept_finish w.now (peer s w).endpoint) (outgoing_finish (other s) (peer s w).endpoint.epoch (peer s w).endpoint w.links w.now (from start s w h).mine (let v = from start s w h in rw v.base v.out.low)) (away_finish w.now (peer s w).endpoint (from start s w h).away)
+sound_happens start (Say s body) w h free = sound_call start s w (say body w.now) h (kept_say body w.now (peer s w).endpoint) (outgoing_say (other s) (peer s w).endpoint.epoch (peer s w).endpoint w.links body w.now (from start s w h).mine) (away_say body w.now (peer s w).endpoint (from start s w h).away)
+sound_happens start (Control s body) w h free = sound_call start s w (control body) h (kept_control body (peer s w).endpoint) (outgoing_control (other s) (peer s w).endpoint.epoch (peer s w).endpoint w.links body (from start s w h).mine) (away_control body (peer s w).endpoint (from start s w h).away)
+sound_happens start (Pause s) w h free = sound_call start s w ask_pause h (kept_pause (peer s w).endpoint) (outgoing_pause (other s) (peer s w).endpoint.epoch (peer s w).endpoint w.links (from start s w h).mine) (away_pause (peer s w).endpoint (from start s w h).away)
+sound_happens start (Resume s) w h free = sound_call start s w ask_resume h (kept_resume (peer s w).endpoint) (outgoing_resume (other s) (peer s w).endpoint.epoch (peer s w).endpoint w.links (from start s w h).mine) (away_resume (peer s w).endpoint (from start s w h).away)
+sound_happens start (Leave s) w h free = sound_call start s w leave h (kept_leave (peer s w).endpoint) (outgoing_leave (other s) (peer s w).endpoint.epoch (peer s w).endpoint w.links (from start s w h).mine) (away_leave (peer s w).endpoint (from start s w h).away)
 sound_happens start (Write s count) w h free = sound_writes start s count w h
 sound_happens start (Read s link count) w h free = sound_reads start s link count (at_number w.links link) w h refl (feeds_free link (peer s w).endpoint (end_none _ (or_none _ _ free).1))
 sound_happens start (Take s) w h free =
     back_to start s w (taken w.now (peer s w)) w.links
     (subst (λ (n : ℕ). View start s n (peer (other s) w).endpoint.epoch (taken w.now (peer s w)) (peer (other s) w) w.links) (sym (epoch_taken w.now (peer s w).endpoint))
     (view_take start s (peer s w).endpoint.epoch (peer (other s) w).endpoint.epoch (peer s w) (peer (other s) w) w.links w.now (from start s w h)))
-sound_happens start (Tick s) w h free = sound_call start s w (tick w.now) h (kept_tick w.now (peer s w).endpoint) (outgoing_tick (other s) (peer s w).endpoint.epoch (peer s w).endpoint w.links w.now (from start s w h).mine)
-sound_happens start (Lose s) w h free = sound_call start s w (lose (peer s w).endpoint.epoch) h (kept_lose (peer s w).endpoint.epoch (peer s w).endpoint) (outgoing_lose (other s) (peer s w).endpoint.epoch (peer s w).endpoint w.links (peer s w).endpoint.epoch (from start s w h).mine)
+sound_happens start (Tick s) w h free = sound_call start s w (tick w.now) h (kept_tick w.now (peer s w).endpoint) (outgoing_tick (other s) (peer s w).endpoint.epoch (peer s w).endpoint w.links w.now (from start s w h).mine) (away_tick w.now (peer s w).endpoint (from start s w h).away)
+sound_happens start (Lose s) w h free = sound_call start s w (lose (peer s w).endpoint.epoch) h (kept_lose (peer s w).endpoint.epoch (peer s w).endpoint) (outgoing_lose (other s) (peer s w).endpoint.epoch (peer s w).endpoint w.links (peer s w).endpoint.epoch (from start s w h).mine) (away_lose (peer s w).endpoint.epoch (peer s w).endpoint (from start s w h).away)
 sound_happens start (Cut link) w h free = sound_cuts start link (at_number w.links link) w h refl
 
 sound_unless : (start : ℕ) (fault : Option Fault) (event : Event) (w : World) → Sound start w → refusal w event ≡ fault → Sound start (unless fault (happens event w) w)
@@ -149,7 +149,7 @@ pub sound_run : (start : ℕ) (events : List Event) (w : World) → Sound start 
 sound_run start [] w h = h
 sound_run start (event ∷ events) w h = sound_run start events (after event w) (sound_after start event w h)
 
-outgoing_new : (base : ℕ) → base ≤ last_id → (to : Side) → Outgoing to base [] base 0 false [] []
+outgoing_new : (base : ℕ) → base ≤ last_id → (to : Side) → HasWritten to base [] base 0 false [] []
 outgoing_new base fits to = record {
   count = omega arith;
   ids = omega arith;
@@ -161,7 +161,7 @@ outgoing_new base fits to = record {
   fresh = λ n l at later. absurd (at_number-nil n l at);
 }
 
-incoming_new : (to : Side) → Incoming to 0 false [] [] []
+incoming_new : (to : Side) → HasRead to 0 false [] [] []
 incoming_new to = record {
   inside = λ n l at. absurd (at_number-nil n l at);
   fresh = λ n l at later. absurd (at_number-nil n l at);
@@ -173,14 +173,23 @@ incoming_new to = record {
 agrees_new : (base : ℕ) → Agrees base [] base [] base
 agrees_new base = record { prefix = ([], refl); count = omega arith; acked = omega arith; low = omega arith }
 
-pub sound_new : (base : ℕ) → base ≤ last_id → Sound base (new_world base)
-sound_new base fits = record {
+away_new : (base now : ℕ) (keeps : Bool) → IsEmptyAway (new_endpoint base now keeps)
+away_new base now keeps = record { unread = λ _. refl; unwritten = λ _. refl }
+
+-- two new endpoints without a link
+pub view_new : (base now later : ℕ) (keeps keeps' : Bool) (s : Side) → base ≤ last_id → View base s 0 0 (new_peer base now keeps) (new_peer base later keeps') []
+view_new base now later keeps keeps' s fits = record {
   base = refl;
   their_base = refl;
-  mine = outgoing_new base fits B;
-  reads = incoming_new A;
-  theirs = outgoing_new base fits A;
-  their_reads = incoming_new B;
+  mine = outgoing_new base fits (other s);
+  reads = incoming_new s;
+  theirs = outgoing_new base fits s;
+  their_reads = incoming_new (other s);
   out = agrees_new base;
   back = agrees_new base;
+  away = away_new base now keeps;
+  their_away = away_new base later keeps';
 }
+
+pub sound_new : (base : ℕ) → base ≤ last_id → Sound base (new_world base)
+sound_new base fits = view_new base 0 0 true false A fits

@@ -1,41 +1,27 @@
 -- What holds of two ends and their links at every moment.
-use Rattle.std.proofs.Common.{◌≡◌, ℕ, ◌+◌, ◌≤◌, List, ◌++◌, length, ap, sym, ◌∙◌, append_assoc}
+use Rattle.std.proofs.Common.{◌≡◌, ℕ, List, ◌++◌, ap, sym, ◌∙◌, append_assoc}
 use Rattle.ra_model.specs.Endpoints.{Endpoint}
 use Rattle.ra_model.specs.Links.{other, Link}
 use Rattle.ra_model.specs.Worlds.{Peer, with_endpoint, World, peer, with_peer, with_links}
 use Rattle.ra_base.specs.declared.event.Side.{Side}
 use Rattle.ra_base.specs.declared.event.Side.TheVariants.{A, B}
-use Rattle.ra_model.specs.Pairs.{messages, IsPrefixOf}
-use Rattle.ra_model.proofs.Calls.{OutgoingOf}
-use Rattle.ra_model.proofs.Kept.{IncomingOf, Kept}
-
--- what one endpoint heard is the beginning of what the other said, and of that no more is acknowledged
-pub record Agrees (base : ℕ) (said : List (List ℕ)) (acknowledged : ℕ) (heard : List (List ℕ)) (received : ℕ) : Type 0 where
-  pub prefix : IsPrefixOf heard said
-  pub count : received ≡ base + length heard
-  pub acked : acknowledged ≤ base + length heard
-  pub low : base ≤ acknowledged
-
--- two endpoints, from one of them, and the numbers of their present links
-pub record View (start : ℕ) (s : Side) (i j : ℕ) (p o : Peer) (links : List Link) : Type 0 where
-  pub base : p.endpoint.base ≡ start
-  pub their_base : o.endpoint.base ≡ start
-  pub mine : OutgoingOf (other s) i p.endpoint links
-  pub reads : IncomingOf s i p.endpoint p.applied links
-  pub theirs : OutgoingOf s j o.endpoint links
-  pub their_reads : IncomingOf (other s) j o.endpoint o.applied links
-  pub out : Agrees start (messages p.endpoint) p.endpoint.acknowledged o.heard o.endpoint.received
-  pub back : Agrees start (messages o.endpoint) o.endpoint.acknowledged p.heard p.endpoint.received
+use Rattle.ra_model.specs.Pairs.{messages}
+use Rattle.ra_model.proofs.Kept.{Kept}
+use Rattle.ra_model.specs.Views.{Agrees, EndpointWrote, IsEmptyAway, View}
 
 -- in a world the epoch of an endpoint is the number of its link
 abbrev pub Sound : ℕ → World → Type 0
 Sound start w = View start A w.a.endpoint.epoch w.b.endpoint.epoch w.a w.b w.links
 
 swap : (start : ℕ) {i j : ℕ} {p o : Peer} {links : List Link} → View start A i j p o links → View start B j i o p links
-swap start v = record { base = v.their_base; their_base = v.base; mine = v.theirs; reads = v.their_reads; theirs = v.mine; their_reads = v.reads; out = v.back; back = v.out }
+swap start v = record { away = v.their_away; their_away = v.away; base = v.their_base; their_base = v.base; mine = v.theirs; reads = v.their_reads; theirs = v.mine; their_reads = v.reads; out = v.back; back = v.out }
 
 swap_back : (start : ℕ) {i j : ℕ} {p o : Peer} {links : List Link} → View start B j i o p links → View start A i j p o links
-swap_back start v = record { base = v.their_base; their_base = v.base; mine = v.theirs; reads = v.their_reads; theirs = v.mine; their_reads = v.reads; out = v.back; back = v.out }
+swap_back start v = record { away = v.their_away; their_away = v.away; base = v.their_base; their_base = v.base; mine = v.theirs; reads = v.their_reads; theirs = v.mine; their_reads = v.reads; out = v.back; back = v.out }
+
+pub turned : (start : ℕ) (s : Side) (i j : ℕ) (p o : Peer) (links : List Link) → View start s i j p o links → View start (other s) j i o p links
+turned start A i j p o links v = swap start v
+turned start B i j p o links v = swap_back start v
 
 pub from : (start : ℕ) (s : Side) (w : World) → Sound start w → View start s (peer s w).endpoint.epoch (peer (other s) w).endpoint.epoch (peer s w) (peer (other s) w) w.links
 from start A w h = h
@@ -57,8 +43,10 @@ pub agrees_same : (start : ℕ) (said : List (List ℕ)) (acknowledged : ℕ) (h
 agrees_same start said acknowledged heard received received' h same = record { prefix = h.prefix; count = same ∙ h.count; acked = h.acked; low = h.low }
 
 -- a call of one endpoint that reads nothing and writes on no link
-pub view_call : (start : ℕ) (s : Side) (i j : ℕ) (p o : Peer) (links : List Link) (e : Endpoint) → View start s i j p o links → Kept p.endpoint e → OutgoingOf (other s) i e links → View start s i j (with_endpoint e p) o links
-view_call start s i j p o links e v k outgoing = record {
+pub view_call : (start : ℕ) (s : Side) (i j : ℕ) (p o : Peer) (links : List Link) (e : Endpoint) → View start s i j p o links → Kept p.endpoint e → EndpointWrote (other s) i e links → IsEmptyAway e → View start s i j (with_endpoint e p) o links
+view_call start s i j p o links e v k outgoing away = record {
+  away = away;
+  their_away = v.their_away;
   base = k.base ∙ v.base;
   their_base = v.their_base;
   mine = outgoing;

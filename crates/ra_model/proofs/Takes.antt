@@ -19,19 +19,19 @@ use Rattle.ra_model.specs.Events.{heard_with, applied_with, taken}
 use Rattle.ra_base.specs.declared.event.Side.{Side}
 use Rattle.ra_model.specs.Pairs.{messages, with_id, IsHonest}
 use Rattle.ra_model.proofs.Incoming.{incoming_lost, incoming_took, next_is_honest}
+use Rattle.ra_model.proofs.Away.{away_came}
 use Rattle.ra_model.proofs.Calls.{outgoing_came, messages_rewritten}
-use Rattle.ra_model.proofs.Kept.{IncomingOf}
-use Rattle.ra_model.proofs.Sound.{View, Agrees}
+use Rattle.ra_model.specs.Views.{Agrees, EndpointRead, View}
 
 cond_parts : {X : Type 0} → (b : Bool) (o : Option X) (x : X) → cond b o None ≡ Some x → (b ≡ true) × (o ≡ Some x)
 cond_parts true o x h = (refl, h)
 cond_parts false o x h = cc
 
-incoming_came : (to : Side) (n : ℕ) (kind : FrameKind) (f : Frame) (now : ℕ) (e : Endpoint) (applied : List Frame) (links : List Link) → IncomingOf to n e applied links → IncomingOf to n (on_frame kind f now e) applied links
+incoming_came : (to : Side) (n : ℕ) (kind : FrameKind) (f : Frame) (now : ℕ) (e : Endpoint) (applied : List Frame) (links : List Link) → EndpointRead to n e applied links → EndpointRead to n (on_frame kind f now e) applied links
 unfolding owed rewritten
 incoming_came to n Regular f now e applied links c =
-    cond_both (eqb f.id (suc e.received)) _ _ (λ (x : Endpoint). IncomingOf to n x applied links) (λ yes. c)
-    (λ no. cond_both (ltb (suc e.received) f.id && not (asked_lately now e.timing)) _ _ (λ (x : Endpoint). IncomingOf to n x applied links) (λ yes. c) (λ _. c))
+    cond_both (eqb f.id (suc e.received)) _ _ (λ (x : Endpoint). EndpointRead to n x applied links) (λ yes. c)
+    (λ no. cond_both (ltb (suc e.received) f.id && not (asked_lately now e.timing)) _ _ (λ (x : Endpoint). EndpointRead to n x applied links) (λ yes. c) (λ _. c))
 incoming_came to n Control f now e applied links c = c
 incoming_came to n Disconnect f now e applied links c = incoming_lost c [] applied c.frames
 incoming_came to n ReplayRequest f now e applied links c = c
@@ -146,7 +146,7 @@ view_took start s i j p o links f rest now v up is =
     let e : Endpoint = passed f rest now p.endpoint in
     let id : f.id ≤ last_id = id_fits f.wide f.id honest.fits.id in
     let room : frame_kind f.kind ≡ Regular → f.id ≡ suc e.received → suc e.received ≤ last_id = λ _ next. subst (λ (n : ℕ). n ≤ last_id) next id in
-    let passed_on : IncomingOf s i e (p.applied ++ f ∷ []) links = incoming_took v.reads f rest honest.fits known.1 in
+    let passed_on : EndpointRead s i e (p.applied ++ f ∷ []) links = incoming_took v.reads f rest honest.fits known.1 in
     let ack : f.ack ≤ o.endpoint.received = honest.ack in
     let count : o.endpoint.received ≡ start + length o.heard = v.out.count in
     let before : p.endpoint.acknowledged ≤ start + length o.heard = v.out.acked in
@@ -159,6 +159,8 @@ view_took start s i j p o links f rest now v up is =
     record {
       base = base_came (frame_kind f.kind) f now e ∙ v.base;
       their_base = v.their_base;
+      away = away_came (frame_kind f.kind) f now e up;
+      their_away = v.their_away;
       mine = outgoing_came (other s) i e links (frame_kind f.kind) f now v.mine here up room;
       reads = incoming_came s i (frame_kind f.kind) f now e (p.applied ++ f ∷ []) links passed_on;
       theirs = v.theirs;
@@ -178,6 +180,13 @@ view_next start s i j p o links now None v is = v
 view_next start s i j p o links now (Some next) v is =
     let parts = cond_parts (is_linked p.endpoint.phase) (first_frame p.endpoint.unread) next is in
     view_took start s i j p o links next.0 next.1 now v parts.0 parts.1
+
+-- the next frame is honest
+pub next_honest : (start : ℕ) (s : Side) (i j : ℕ) (p o : Peer) (links : List Link) (f : Frame) (rest : List ℕ) → View start s i j p o links → next_frame p.endpoint ≡ Some (f, rest) → IsHonest start (messages o.endpoint) (start + length o.heard) f
+next_honest start s i j p o links f rest v is =
+    let parts = cond_parts (is_linked p.endpoint.phase) (first_frame p.endpoint.unread) (f, rest) is in
+    let known = next_is_honest v.reads v.theirs parts.0 f rest parts.1 in
+    subst (λ (n : ℕ). IsHonest start (messages o.endpoint) n f) v.out.count (subst (λ (n : ℕ). IsHonest n (messages o.endpoint) o.endpoint.received f) v.their_base known.0)
 
 -- a frame is taken, where there is one
 pub view_take : (start : ℕ) (s : Side) (i j : ℕ) (p o : Peer) (links : List Link) (now : ℕ) → View start s i j p o links → View start s i j (taken now p) o links

@@ -1,5 +1,5 @@
 -- What an endpoint in memory keeps, and the endpoints that it stands for. It has a queue in place of all that was said.
-use Rattle.std.specs.Prelude.{◌≡◌, ℕ, ◌+◌, ◌≤◌, length, slice_get, All, Bool, true, if◌then◌else◌, nat_le, Option, Some, List, [], ◌∷◌}
+use Rattle.std.specs.Prelude.{◌≡◌, ℕ, ◌+◌, ◌≤◌, length, slice_get, All, Bool, true, if◌then◌else◌, nat_le, Some, List, [], ◌∷◌}
 use Rattle.ra_model.specs.declared.timing.Timing.{Timing}
 use Rattle.ra_model.specs.declared.frame.Frame.{Frame}
 use Rattle.ra_model.specs.Frames.{body_limit}
@@ -72,41 +72,3 @@ behind upto (entry ∷ entries) = if nat_le entry.id upto then behind upto entri
 -- a message in the queue, once it is written again
 abbrev pub entry_written : ℕ → Entry → Entry
 entry_written now entry = record entry { written = Some now }
-
--- What an endpoint has in memory as long as no alarms are built: of its moments the latest, and when a replay was last asked for
-pub record EarlyState : Type 0 where
-  pub phase : Phase
-  pub epoch : ℕ
-  pub sent : ℕ
-  pub queue : List Entry
-  pub received : ℕ
-  pub acknowledged : ℕ
-  pub told : ℕ
-  pub unread : List ℕ
-  pub unwritten : List ℕ
-  pub paused : Bool
-  pub keeps_alive : Bool
-  pub asked : Option ℕ
-  pub latest : ℕ
-
-abbrev pub with_timing : Timing → EarlyState → EndpointState
-with_timing timing s = record {
-  phase = s.phase;
-  epoch = s.epoch;
-  sent = s.sent;
-  queue = s.queue;
-  received = s.received;
-  acknowledged = s.acknowledged;
-  told = s.told;
-  unread = s.unread;
-  unwritten = s.unwritten;
-  paused = s.paused;
-  keeps_alive = s.keeps_alive;
-  timing = timing;
-}
-
--- it stands for the endpoints with these moments, whatever their alarms
-pub record StandsEarly (s : EarlyState) (e : Endpoint) : Type 0 where
-  pub stands : StandsFor (with_timing e.timing s) e
-  pub asked : s.asked ≡ e.timing.asked
-  pub latest : s.latest ≡ e.timing.latest

@@ -64,20 +64,20 @@ pub record KeepsUnheard (base : ℕ) (from to : Peer) : Type 0 where
   pub sent : sent from.endpoint ≡ base + length (messages from.endpoint)
   pub queue : IsUngapped from.endpoint
 
--- the text that an endpoint wrote to this side of each link
-pub record WritesHonestly (base : ℕ) (side : Side) (from : Peer) (links : List Link) : Type 0 where
+-- The text that an endpoint wrote to this side of each link. `number` is the number of its present link, apart from its epoch.
+pub record WritesHonestly (base : ℕ) (side : Side) (number : ℕ) (from : Peer) (links : List Link) : Type 0 where
   pub front : (n : ℕ) (link : Link) → at_number links n ≡ Some link
       → IsFront base (messages from.endpoint) (base + length from.heard) (direction_to side link).written
   -- on its present link, unless that is cut, lost or ended, the frames are whole with what is unwritten
-  pub whole : (link : Link) → at_number links from.endpoint.epoch ≡ Some link → link.is_cut ≡ false → is_linked from.endpoint.phase ≡ true
+  pub whole : (link : Link) → at_number links number ≡ Some link → link.is_cut ≡ false → is_linked from.endpoint.phase ≡ true
       → IsJoining base (messages from.endpoint) (base + length from.heard) ((direction_to side link).written ++ from.endpoint.unwritten)
 
--- the bytes that an endpoint read on this side of each link
-pub record ReadsInFrames (side : Side) (to : Peer) (links : List Link) : Type 0 where
+-- The bytes that an endpoint read on this side of each link, `number` being that of its present one.
+pub record ReadsInFrames (side : Side) (number : ℕ) (to : Peer) (links : List Link) : Type 0 where
   pub inside : (n : ℕ) (link : Link) → at_number links n ≡ Some link → (direction_to side link).read ≤ length (direction_to side link).written
   pub each : AllByRecursion IsFrame to.applied
   -- on its present link, unless that is lost or ended, they are the frames that it applied, and what is unread
-  pub carry : (link : Link) → at_number links to.endpoint.epoch ≡ Some link → is_linked to.endpoint.phase ≡ true
+  pub carry : (link : Link) → at_number links number ≡ Some link → is_linked to.endpoint.phase ≡ true
       → take (direction_to side link).read (direction_to side link).written ≡ joined to.applied ++ to.endpoint.unread
 
 -- Whatever happens next: nothing is taken back
@@ -89,7 +89,7 @@ pub record IsLater (before after : Peer) : Type 0 where
   pub received : before.endpoint.received ≤ after.endpoint.received
   pub acknowledged : before.endpoint.acknowledged ≤ after.endpoint.acknowledged
 
--- In every run, for the messages that go to either side
+-- In every run, for the messages that go to either side. There the epoch of an endpoint is the number of its link.
 
 abbrev pub InEveryRun : (ℕ → Side → World → Type 0) → Type 0
 InEveryRun P = (base : ℕ) (events : List Event) (side : Side) → base ≤ last_id → P base side (run events (new_world base))
@@ -101,7 +101,7 @@ abbrev pub AreKeptUntilHeard : ℕ → Side → World → Type 0
 AreKeptUntilHeard base side w = KeepsUnheard base (peer (other side) w) (peer side w)
 
 abbrev pub AreWrittenHonestly : ℕ → Side → World → Type 0
-AreWrittenHonestly base side w = WritesHonestly base side (peer (other side) w) w.links
+AreWrittenHonestly base side w = WritesHonestly base side (peer (other side) w).endpoint.epoch (peer (other side) w) w.links
 
 abbrev pub AreReadInFrames : ℕ → Side → World → Type 0
-AreReadInFrames base side w = ReadsInFrames side (peer side w) w.links
+AreReadInFrames base side w = ReadsInFrames side (peer side w).endpoint.epoch (peer side w) w.links

@@ -1,21 +1,28 @@
-//! What holds of frames and of every run of two endpoints.
-ghost use Rattle.std.specs.Prelude.{◌≡◌, ℕ, suc, ◌+◌, ◌≤◌, Option, Some, None, true, false, List, [], ◌∷◌, ◌++◌, length, map, drop};
+//! What holds of frames, of the queue of an endpoint, of every view of two endpoints and of every run of them.
+//! Each function has an empty body: its clauses are what is proved.
+ghost use Rattle.std.specs.Prelude.{◌≡◌, ℕ, suc, ◌+◌, ◌*◌, ◌<◌, ◌≤◌, Bool, Some, None, true, false, List, [], ◌∷◌, ◌++◌, length, map, drop};
 ghost use Rattle.ra_model.specs.Frames.{IsFrame, IsBytes, IsCut, Begins, HoldsNoFrame, frame_bytes, last_id};
 ghost use Rattle.ra_model.specs.FirstFrame.{first_frame, is_too_long};
 ghost use Rattle.ra_model.specs.Cutting.{frames_of, rest_of, IsCarry};
 ghost use Rattle.ra_model.specs.declared.frame.Frame.{Frame};
 ghost use Rattle.ra_model.specs.Endpoints.{Endpoint, is_ended, SaidMessage, sent, owed};
-ghost use Rattle.ra_model.specs.Calls.{rewritten};
+ghost use Rattle.ra_model.specs.Calls.{rewritten, begin, finish, say, control, ask_pause, ask_resume, feed, wrote, lose, leave, tick};
+ghost use Rattle.ra_model.specs.Taking.{next_frame, take_frame, delivery};
+ghost use Rattle.ra_model.specs.GoesOn.{GoesOn};
+ghost use Rattle.ra_model.specs.Views.{View, IsEmptyAway, new_peer};
 ghost use Rattle.ra_model.specs.EndpointStates.{EndpointState, StandsFor, IsOrdered, behind, entry_written};
 ghost use Rattle.ra_model.specs.Events.{run, after};
-ghost use Rattle.ra_model.specs.Worlds.{new_world, peer};
+ghost use Rattle.ra_model.specs.Links.{Link, other};
+ghost use Rattle.ra_model.specs.Worlds.{Peer, new_world, peer};
 ghost use Rattle.ra_model.specs.HeardPlaces.{AreHeardPlaces, message_places, deliveries};
 ghost use Rattle.ra_model.specs.Acks.{greatest, run_acks};
 ghost use Rattle.ra_model.specs.Refusals.{take_refusal};
 ghost use Rattle.ra_model.specs.Conversations.{conversation_of, conversed, run_steps, new_conversation};
 ghost use Rattle.ra_base.specs.declared.event.Side.{Side};
 ghost use Rattle.ra_base.specs.declared.event.Event.{Event};
-ghost use Rattle.ra_model.specs.Pairs.{InEveryRun, AreHeardInOrder, AreKeptUntilHeard, AreWrittenHonestly, AreReadInFrames, IsLater};
+ghost use Rattle.ra_model.specs.Pairs.{InEveryRun, AreHeardInOrder, AreKeptUntilHeard, AreWrittenHonestly, AreReadInFrames, IsLater, HearsInOrder, KeepsUnheard, WritesHonestly, ReadsInFrames, IsHonest, messages};
+
+use crate::session::Up;
 
 /// A text of bytes is cut into frames in one way, and piece by piece in the same way.
 pub fn one_cut()
@@ -35,6 +42,12 @@ pub fn cutting()
     ensures none { (text : List ℕ) → first_frame text ≡ None → (frames_of text ≡ []) × (rest_of text ≡ text) }
     ensures found { (text : List ℕ) (f : Frame) (rest : List ℕ) → first_frame text ≡ Some (f, rest) → (length (frame_bytes f) ≤ length text) × (rest ≡ drop (length (frame_bytes f)) text) }
     ensures later { (text more : List ℕ) (f : Frame) (rest : List ℕ) → first_frame text ≡ Some (f, rest) → first_frame (text ++ more) ≡ Some (f, rest ++ more) }
+{}
+
+/// How many frames a text has. Where none was whole, a piece makes at most one more than its bytes have room for.
+pub fn few_frames()
+    ensures all { (text : List ℕ) → 13 * length (frames_of text) ≤ length text }
+    ensures more { (text piece : List ℕ) (f : Frame) (frames : List Frame) → first_frame text ≡ None → frames_of (text ++ piece) ≡ f ∷ frames → 13 * length frames < length piece }
 {}
 
 /// What a reader has read of a text, and has not, over pieces.
@@ -58,6 +71,38 @@ pub fn queue()
 pub fn hearing()
     ensures places { (now : ℕ) (frames : List Frame) (e : Endpoint) → is_ended e.phase ≡ false → AreHeardPlaces frames e.received (message_places 0 (deliveries now frames e)) }
     ensures unique { (frames : List Frame) (last : ℕ) (ps qs : List ℕ) → AreHeardPlaces frames last ps → AreHeardPlaces frames last qs → ps ≡ qs }
+{}
+
+/// A frame that comes ends an endpoint where it hands up the end, and leaving ends it. No other call does.
+pub fn ending()
+    ensures begin { (epoch : ℕ) (chunk : List ℕ) (now : ℕ) → GoesOn (begin epoch chunk now) }
+    ensures finish { (now : ℕ) → GoesOn (finish now) }
+    ensures say { (body : List ℕ) (now : ℕ) → GoesOn (say body now) }
+    ensures control { (body : List ℕ) → GoesOn (control body) }
+    ensures pause { GoesOn ask_pause }
+    ensures resume { GoesOn ask_resume }
+    ensures feed { (epoch : ℕ) (piece : List ℕ) (now : ℕ) → GoesOn (feed epoch piece now) }
+    ensures wrote { (n : ℕ) → GoesOn (wrote n) }
+    ensures lose { (epoch : ℕ) → GoesOn (lose epoch) }
+    ensures tick { (now : ℕ) → GoesOn (tick now) }
+    ensures take { (now : ℕ) (e : Endpoint) → (delivery e ≡ Some Up.Ended → ⊥) → is_ended e.phase ≡ false → is_ended (take_frame now e).phase ≡ false }
+    ensures take_ends { (now : ℕ) (e : Endpoint) → delivery e ≡ Some Up.Ended → is_ended (take_frame now e).phase ≡ true }
+    ensures leave_ends { (e : Endpoint) → is_ended (leave e).phase ≡ true }
+{}
+
+/// What a view of two endpoints says of the messages from the endpoint at its side to the other, and of what that endpoint wrote
+/// and read. A view from the other side is the same view, and every moment of every run has one.
+pub fn view()
+    ensures heard { (start : ℕ) (s : Side) (i j : ℕ) (p o : Peer) (links : List Link) → View start s i j p o links → HearsInOrder start p o }
+    ensures kept { (start : ℕ) (s : Side) (i j : ℕ) (p o : Peer) (links : List Link) → View start s i j p o links → KeepsUnheard start p o }
+    ensures written { (start : ℕ) (s : Side) (i j : ℕ) (p o : Peer) (links : List Link) → View start s i j p o links → WritesHonestly start (other s) i p links }
+    ensures read { (start : ℕ) (s : Side) (i j : ℕ) (p o : Peer) (links : List Link) → View start s i j p o links → ReadsInFrames s i p links }
+    ensures next { (start : ℕ) (s : Side) (i j : ℕ) (p o : Peer) (links : List Link) (f : Frame) (rest : List ℕ) → View start s i j p o links → next_frame p.endpoint ≡ Some (f, rest) → IsHonest start (messages o.endpoint) (start + length o.heard) f }
+    ensures never_too_long { (start : ℕ) (s : Side) (i j : ℕ) (p o : Peer) (links : List Link) → View start s i j p o links → take_refusal p.endpoint ≡ None }
+    ensures away { (start : ℕ) (s : Side) (i j : ℕ) (p o : Peer) (links : List Link) → View start s i j p o links → IsEmptyAway p.endpoint }
+    ensures turned { (start : ℕ) (s : Side) (i j : ℕ) (p o : Peer) (links : List Link) → View start s i j p o links → View start (other s) j i o p links }
+    ensures begins { (base now later : ℕ) (keeps keeps_too : Bool) (s : Side) → base ≤ last_id → View base s 0 0 (new_peer base now keeps) (new_peer base later keeps_too) [] }
+    ensures every_run { (base : ℕ) (events : List Event) (s : Side) → base ≤ last_id → let w = run events (new_world base) in View base s (peer s w).endpoint.epoch (peer (other s) w).endpoint.epoch (peer s w) (peer (other s) w) w.links }
 {}
 
 /// Whatever is said, written, read in any pieces, cut and begun anew: each endpoint has handed up the first messages of its peer,

@@ -1,10 +1,14 @@
 //! The session of two endpoints over links that come and go, as definitions, and what holds of every run of them.
+//!
+//! The types are plain data. What they mean is defined in specs/, and what holds of it stands as clauses on the functions of
+//! `laws` and `moves`, whose bodies are empty. Nothing here runs: the code that keeps to these definitions is in the crates above.
 #![tactic(auto)]
 
 pub mod effect;
 pub mod fault;
 pub mod frame;
 pub mod laws;
+pub mod moves;
 pub mod session;
 pub mod timing;
 

@@ -1,13 +1,14 @@
-//! The queue of an endpoint, and what it writes.
-ghost use Rattle.std.specs.Prelude.{◌≡◌, ◌<◌, ◌≤◌, ◌++◌, ◌∷◌, [], ◌&&◌, length, take, drop, map, All, cond, nat_lt, Some, None, OnOk, OnErr};
+//! What an endpoint writes: frames of its queue, acks and keep-alives, each whole or not at all.
+ghost use Rattle.std.specs.Prelude.{◌≡◌, ◌<◌, ◌≤◌, ◌++◌, ◌∷◌, [], ◌&&◌, length, take, drop, map, All, cond, nat_lt, Some, None, OnOk, OnErr, IfErr};
 ghost use Rattle.ra_model.specs.Frames.{body_limit, joined, frame_bytes};
 ghost use Rattle.ra_model.specs.FrameKinds.{written_frame, regular, ack_frame, keep_alive_frame};
 ghost use Rattle.ra_model.specs.Endpoints.{first_written, entry_frame};
 ghost use Rattle.ra_model.specs.EndpointStates.{behind, entry_written};
 ghost use Rattle.ra_model.specs.Calls.{when};
 
-use ra_frame::append_written;
-use ra_model::Entry;
+use crate::saying::SayFault;
+use crate::unwritten::Unwritten;
+use ra_model::{EndFault, Entry};
 use std::alloc::AllocError;
 
 /// When the front of the queue was last written.
@@ -36,69 +37,55 @@ pub fn written_at(is_up: bool, now: u64) -> Option<u64>
 
 /// Adds the bytes of a message where the link is up, or nothing.
 fn append_when(
-    out: &mut Vec<u8>,
+    out: &mut Unwritten,
     is_up: bool,
     id: u64,
     ack: u64,
     body: &[u8],
 ) -> Result<(), AllocError>
     requires { length body.now ≤ body_limit }
-    ensures ok { OnOk result (out.new.items ≡ out.old.items ++ joined (when is_up (regular id ack body.now))) }
-    ensures err { OnErr result (out.new.items ≡ out.old.items) }
+    ensures ok { OnOk result (out.new ≡ out.old ++ joined (when is_up (regular id ack body.now))) }
+    ensures err { OnErr result (out.new ≡ out.old) }
 {
     if is_up {
-        append_written(out, 1, id, ack, body)?;
+        out.append(1, id, ack, body)?;
     }
     Ok(())
 }
 
-/// Adds the bytes of a frame, or nothing.
-pub fn append_one(
-    out: &mut Vec<u8>,
-    kind: u8,
-    id: u64,
-    ack: u64,
-    body: &[u8],
-) -> Result<(), AllocError>
-    requires kind { kind < 128 }
-    requires body { length body.now ≤ body_limit }
-    ensures ok { OnOk result (out.new.items ≡ out.old.items ++ joined (written_frame kind id ack body.now ∷ [])) }
-    ensures err { OnErr result (out.new.items ≡ out.old.items) }
-{
-    append_written(out, kind, id, ack, body)
-}
-
-/// Puts a message into the queue, and writes it where the link is up; or does nothing.
+/// Puts a message into the queue, and writes it where the link is up. At want of memory nothing changes, and its body comes back.
 pub fn enqueue(
     queue: &mut Vec<Entry>,
-    unwritten: &mut Vec<u8>,
+    unwritten: &mut Unwritten,
     is_up: bool,
     entry: Entry,
-) -> Result<(), AllocError>
+) -> Result<(), SayFault>
     requires { length entry.body ≤ body_limit }
     ensures queue { OnOk result (queue.new.items ≡ queue.old.items ++ entry ∷ []) }
-    ensures unwritten { OnOk result (unwritten.new.items ≡ unwritten.old.items ++ joined (when is_up (regular entry.id entry.ack entry.body))) }
-    ensures err { OnErr result ((queue.new.items ≡ queue.old.items) × (unwritten.new.items ≡ unwritten.old.items)) }
+    ensures unwritten { OnOk result (unwritten.new ≡ unwritten.old ++ joined (when is_up (regular entry.id entry.ack entry.body))) }
+    ensures memory { IfErr result (λ refused. refused.fault ≡ EndFault.NoMemory) }
+    ensures body { IfErr result (λ refused. refused.body ≡ entry.body) }
+    ensures err { OnErr result ((queue.new.items ≡ queue.old.items) × (unwritten.new ≡ unwritten.old)) }
 {
-    let before = unwritten.len();
-    append_when(unwritten, is_up, entry.id, entry.ack, entry.body.as_slice())?;
-    match queue.push(entry) {
-        Ok(()) => Ok(()),
-        Err(fault) => {
-            unwritten.truncate(before);
-            Err(AllocError)
-        }
+    if queue.reserve(1).is_err() {
+        return Err(no_memory(entry));
     }
+    if append_when(unwritten, is_up, entry.id, entry.ack, entry.body.as_slice()).is_err() {
+        return Err(no_memory(entry));
+    }
+    queue.push(entry).unwrap();
+    Ok(())
 }
 
-/// The first n bytes are gone.
-pub fn remove_front(bytes: &mut Vec<u8>, n: usize)
-    requires { n ≤ length bytes.old.items }
-    ensures { bytes.new.items ≡ drop n bytes.old.items }
+/// There is no memory for a message.
+fn no_memory(entry: Entry) -> SayFault
+    ensures fault { result.fault ≡ EndFault.NoMemory }
+    ensures body { result.body ≡ entry.body }
 {
-    let rest = bytes.len() - n;
-    bytes.copy_within(n.., 0);
-    bytes.truncate(rest);
+    SayFault {
+        body: entry.body,
+        fault: EndFault::NoMemory,
+    }
 }
 
 /// How many messages at the front of the queue are acknowledged.
@@ -130,14 +117,17 @@ fn mark_each(queue: &mut [Entry], now: u64)
 }
 
 /// Adds the bytes of all in the queue, or nothing.
-pub fn append_replay(queue: &[Entry], out: &mut Vec<u8>) -> Result<(), AllocError>
+pub fn append_replay(queue: &[Entry], out: &mut Unwritten) -> Result<(), AllocError>
     requires { All (λ entry. length entry.body ≤ body_limit) queue.now }
-    ensures ok { OnOk result (out.new.items ≡ out.old.items ++ joined (map entry_frame queue.now)) }
-    ensures err { OnErr result (out.new.items ≡ out.old.items) }
+    ensures ok { OnOk result (out.new ≡ out.old ++ joined (map entry_frame queue.now)) }
+    ensures err { OnErr result (out.new ≡ out.old) }
 {
     let before = out.len();
     for entry in queue {
-        if append_written(out, 1, entry.id, entry.ack, entry.body.as_slice()).is_err() {
+        if out
+            .append(1, entry.id, entry.ack, entry.body.as_slice())
+            .is_err()
+        {
             out.truncate(before);
             return Err(AllocError);
         }
@@ -146,25 +136,25 @@ pub fn append_replay(queue: &[Entry], out: &mut Vec<u8>) -> Result<(), AllocErro
 }
 
 /// Adds a frame that has only a type, or nothing.
-pub fn append_if(out: &mut Vec<u8>, is_written: bool, kind: u8) -> Result<(), AllocError>
+pub fn append_if(out: &mut Unwritten, is_written: bool, kind: u8) -> Result<(), AllocError>
     requires { kind < 128 }
-    ensures ok { OnOk result (out.new.items ≡ out.old.items ++ joined (when is_written (written_frame kind 0 0 []))) }
-    ensures err { OnErr result (out.new.items ≡ out.old.items) }
+    ensures ok { OnOk result (out.new ≡ out.old ++ joined (when is_written (written_frame kind 0 0 []))) }
+    ensures err { OnErr result (out.new ≡ out.old) }
 {
     if is_written {
-        append_written(out, kind, 0, 0, &[])?;
+        out.append(kind, 0, 0, &[])?;
     }
     Ok(())
 }
 
 /// Adds an Ack, and the bytes of all in the queue; or nothing.
-pub fn append_rejoin(queue: &[Entry], received: u64, out: &mut Vec<u8>) -> Result<(), AllocError>
+pub fn append_rejoin(queue: &[Entry], received: u64, out: &mut Unwritten) -> Result<(), AllocError>
     requires { All (λ entry. length entry.body ≤ body_limit) queue.now }
-    ensures ok { OnOk result (out.new.items ≡ (out.old.items ++ joined (ack_frame received ∷ [])) ++ joined (map entry_frame queue.now)) }
-    ensures err { OnErr result (out.new.items ≡ out.old.items) }
+    ensures ok { OnOk result (out.new ≡ (out.old ++ joined (ack_frame received ∷ [])) ++ joined (map entry_frame queue.now)) }
+    ensures err { OnErr result (out.new ≡ out.old) }
 {
     let before = out.len();
-    append_one(out, 3, 0, received, &[])?;
+    out.append(3, 0, received, &[])?;
     if append_replay(queue, out).is_err() {
         out.truncate(before);
         return Err(AllocError);
@@ -174,28 +164,28 @@ pub fn append_rejoin(queue: &[Entry], received: u64, out: &mut Vec<u8>) -> Resul
 
 /// Adds an Ack and a KeepAlive, each where it is written; or nothing.
 pub fn append_tick(
-    out: &mut Vec<u8>,
+    out: &mut Unwritten,
     writes_ack: bool,
     writes_keep_alive: bool,
     received: u64,
 ) -> Result<(), AllocError>
-    ensures ok { OnOk result (out.new.items ≡ out.old.items ++ joined (when writes_ack (ack_frame received) ++ when writes_keep_alive (keep_alive_frame received))) }
-    ensures err { OnErr result (out.new.items ≡ out.old.items) }
+    ensures ok { OnOk result (out.new ≡ out.old ++ joined (when writes_ack (ack_frame received) ++ when writes_keep_alive (keep_alive_frame received))) }
+    ensures err { OnErr result (out.new ≡ out.old) }
 {
     if writes_ack && writes_keep_alive {
         let before = out.len();
-        append_one(out, 3, 0, received, &[])?;
-        if append_one(out, 9, 0, received, &[]).is_err() {
+        out.append(3, 0, received, &[])?;
+        if out.append(9, 0, received, &[]).is_err() {
             out.truncate(before);
             return Err(AllocError);
         }
         return Ok(());
     }
     if writes_ack {
-        return append_one(out, 3, 0, received, &[]);
+        return out.append(3, 0, received, &[]);
     }
     if writes_keep_alive {
-        return append_one(out, 9, 0, received, &[]);
+        return out.append(9, 0, received, &[]);
     }
     Ok(())
 }
@@ -220,11 +210,11 @@ pub fn remove_entries(queue: &mut Vec<Entry>, n: usize)
 }
 
 /// Adds the bytes of all in the queue behind the first n, or nothing.
-pub fn append_rest(queue: &[Entry], n: usize, out: &mut Vec<u8>) -> Result<(), AllocError>
+pub fn append_rest(queue: &[Entry], n: usize, out: &mut Unwritten) -> Result<(), AllocError>
     requires n { n ≤ length queue.now }
     requires fits { All (λ entry. length entry.body ≤ body_limit) queue.now }
-    ensures ok { OnOk result (out.new.items ≡ out.old.items ++ joined (map entry_frame (drop n queue.now))) }
-    ensures err { OnErr result (out.new.items ≡ out.old.items) }
+    ensures ok { OnOk result (out.new ≡ out.old ++ joined (map entry_frame (drop n queue.now))) }
+    ensures err { OnErr result (out.new ≡ out.old) }
 {
     append_replay(&queue[n..], out)
 }

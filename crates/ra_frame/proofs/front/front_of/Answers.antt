@@ -37,4 +37,4 @@ returns c =
     let text : List ℕ = c.args.unread.now in
     let header : c.header_len-header.result ≡ header_len (is_wide text) = c.header_len-header.ensures.len ∙ ap header_len c.is_wide-wide.ensures in
     let is : stated text ≡ c.read_u32-stated.result = sym (c.read_u32-stated.ensures ∙ ap (λ (p : ℕ). number_at w32 p text) (c.len_place.ensures ∙ ap len_place c.is_wide-wide.ensures)) in
-    fronts.whole text c.read_u32-stated.result is (omega arith) (omega arith)
+    fronts.whole text c.read_u32-stated.result (λ k. omega (arith, c.type_inv.unread k)) is (omega arith) (omega arith)

@@ -4,4 +4,4 @@ use Rattle.ra_model.specs.Endpoints.{entry_frame}
 use Rattle.ra_proto.proofs.writing.append_replay.Given as goal
 
 abbrev pub invariant-loop-entry : goal.invariant-loop-entry
-invariant-loop-entry l = l.out.items ≡ l.fn.out.items ++ joined (map entry_frame (take l.entry-index l.queue))
+invariant-loop-entry l = l.out ≡ l.fn.out ++ joined (map entry_frame (take l.entry-index l.queue))

@@ -1,0 +1,144 @@
+//! The endpoint: what it keeps, and what it shows.
+ghost use Rattle.std.specs.Prelude.{◌≡◌, ◌≤◌, ◌<◌, ◌^◌, length, max, if◌then◌else◌};
+ghost use Rattle.ra_model.specs.EndpointStates.{StandsFor};
+ghost use Rattle.ra_model.specs.Endpoints.{Endpoint as AbstractEndpoint, new_endpoint, shown};
+ghost use Rattle.ra_model.specs.Calls.{wrote};
+ghost use Rattle.ra_proto.specs.Shown.{shown_of, emptied};
+
+use crate::alarms::new_timing;
+use crate::unwritten::Unwritten;
+use ra_base::{Message, Moment};
+use ra_frame::FrameReader;
+use ra_model::{Entry, Phase, Timing};
+use std::alloc::Global;
+use std::marker::Model;
+
+/// The numbers that two endpoints compare.
+#[derive(Clone, Copy, Debug, PartialEq, Eq)]
+pub struct Marks {
+    /// The last id given.
+    pub sent: u64,
+    /// The last id handed up.
+    pub received: u64,
+    /// The highest id that the peer acknowledged.
+    pub acknowledged: u64,
+}
+
+/// An endpoint of a session. It is seen as what it keeps in memory.
+#[derive(Drop)]
+pub struct Endpoint {
+    pub(crate) phase: Phase,
+    pub(crate) epoch: u64,
+    pub(crate) sent: u64,
+    pub(crate) queue: Vec<Entry>,
+    pub(crate) received: u64,
+    pub(crate) acknowledged: u64,
+    pub(crate) told: u64,
+    pub(crate) unread: FrameReader,
+    pub(crate) unwritten: Unwritten,
+    pub(crate) paused: bool,
+    pub(crate) keeps_alive: bool,
+    pub(crate) timing: Timing,
+}
+
+impl Model for Endpoint {
+    ghost use Rattle.std.specs.Prelude.{◌≡◌, ◌<◌, ◌^◌};
+    ghost use Rattle.ra_model.specs.EndpointStates.{EndpointState, IsConsistent};
+
+    ghost Value = { EndpointState };
+
+    ghost view = { λ e. record { phase = e.phase; epoch = e.epoch; sent = e.sent; queue = e.queue.items; received = e.received; acknowledged = e.acknowledged; told = e.told; unread = e.unread; unwritten = e.unwritten; paused = e.paused; keeps_alive = e.keeps_alive; timing = e.timing } };
+
+    ghost invariant = { λ e. IsConsistent (record { phase = e.phase; epoch = e.epoch; sent = e.sent; queue = e.queue.items; received = e.received; acknowledged = e.acknowledged; told = e.told; unread = e.unread; unwritten = e.unwritten; paused = e.paused; keeps_alive = e.keeps_alive; timing = e.timing }) × (e.timing.latest < 2 ^ 53) × (e.timing.heard < 2 ^ 53) };
+}
+
+/// The moment of a call: the moments of one endpoint never fall.
+pub(crate) fn later(now: Moment, latest: u64) -> u64
+    requires { latest < 2 ^ 53 }
+    ensures value { result ≡ max now latest }
+    ensures bound { result < 2 ^ 53 }
+{
+    now.millis().max(latest)
+}
+
+impl Endpoint {
+    /// Both directions of the session start from 0.
+    pub fn new(alloc: Global, now: Moment, keep_alive: bool) -> Endpoint
+        ensures { StandsFor result (new_endpoint 0 now keep_alive) }
+    {
+        Endpoint::from_base(alloc, now, keep_alive, 0)
+    }
+
+    /// Both directions of the session start from this count.
+    pub fn from_base(alloc: Global, now: Moment, keep_alive: bool, base: u64) -> Endpoint
+        ensures { StandsFor result (new_endpoint base now keep_alive) }
+    {
+        Endpoint {
+            phase: Phase::Away,
+            epoch: 0,
+            sent: base,
+            queue: Vec::new(alloc),
+            received: base,
+            acknowledged: base,
+            told: base,
+            unread: FrameReader::new(alloc),
+            unwritten: Unwritten::new(alloc),
+            paused: false,
+            keeps_alive: keep_alive,
+            timing: new_timing(now.millis()),
+        }
+    }
+
+    pub fn phase(&self) -> Phase
+        ensures { result ≡ self.now.phase }
+    {
+        self.phase
+    }
+
+    /// The number of the present link, or of the last one; 0 before the first.
+    pub fn epoch(&self) -> u64
+        ensures { result ≡ self.now.epoch }
+    {
+        self.epoch
+    }
+
+    pub fn marks(&self) -> Marks
+        ensures { result ≡ record { sent = self.now.sent; received = self.now.received; acknowledged = self.now.acknowledged } }
+    {
+        Marks {
+            sent: self.sent,
+            received: self.received,
+            acknowledged: self.acknowledged,
+        }
+    }
+
+    /// The bytes that may be put on the link: none while paused.
+    pub fn out(&self) -> &[u8]
+        ensures { result.now ≡ shown_of self.now }
+    {
+        if self.paused {
+            return &[];
+        }
+        self.unwritten.as_slice()
+    }
+
+    /// The first n bytes of `out` were put on the link.
+    pub fn wrote(&mut self, n: usize)
+        requires { n ≤ length (shown_of self.old) }
+        ensures { (e : AbstractEndpoint) → StandsFor self.old e → StandsFor self.new (wrote n e) }
+    {
+        self.unwritten.advance(n);
+    }
+
+    /// All of `out`, which is put on the link.
+    pub fn take_out(&mut self) -> Message
+        ensures out { result ≡ shown_of self.old }
+        ensures state { self.new ≡ emptied self.old }
+        ensures stands { (e : AbstractEndpoint) → StandsFor self.old e → StandsFor self.new (wrote (length (shown e)) e) }
+    {
+        if self.paused {
+            return self.unwritten.nothing();
+        }
+        self.unwritten.take()
+    }
+}
