@@ -11,8 +11,10 @@ use crate::alarms::watched;
 use crate::endpoint::{Endpoint, later};
 use crate::writing::{enqueue, first_written, waits, written_at};
 use ra_base::{Message, Moment};
-use ra_frame::reader::BODY_LIMIT;
 use ra_model::{EndFault, Entry};
+
+/// The most bytes of a body.
+const BODY_LIMIT: usize = 268_435_456;
 
 /// A say that was refused.
 #[derive(Drop)]

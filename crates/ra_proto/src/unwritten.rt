@@ -3,9 +3,9 @@ ghost use Rattle.std.specs.Prelude.{◌≡◌, ◌≤◌, ◌<◌, ◌++◌, ◌
 ghost use Rattle.ra_model.specs.Frames.{body_limit, joined};
 ghost use Rattle.ra_model.specs.FrameKinds.{written_frame};
 
-use ra_base::Message;
+use ra_base::{Message, NoMemory};
 use ra_frame::append_written;
-use std::alloc::{AllocError, Global};
+use std::alloc::Global;
 use std::marker::Model;
 use std::mem;
 
@@ -53,7 +53,7 @@ impl Unwritten {
     }
 
     /// Adds the bytes of a frame, or nothing.
-    pub fn append(&mut self, kind: u8, id: u64, ack: u64, body: &[u8]) -> Result<(), AllocError>
+    pub fn append(&mut self, kind: u8, id: u64, ack: u64, body: &[u8]) -> Result<(), NoMemory>
         requires kind { kind < 128 }
         requires body { length body.now ≤ body_limit }
         ensures ok { OnOk result (self.new ≡ self.old ++ joined (written_frame kind id ack body.now ∷ [])) }

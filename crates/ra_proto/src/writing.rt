@@ -8,8 +8,8 @@ ghost use Rattle.ra_model.specs.Calls.{when};
 
 use crate::saying::SayFault;
 use crate::unwritten::Unwritten;
+use ra_base::NoMemory;
 use ra_model::{EndFault, Entry};
-use std::alloc::AllocError;
 
 /// When the front of the queue was last written.
 pub fn first_written(queue: &[Entry]) -> Option<u64>
@@ -42,7 +42,7 @@ fn append_when(
     id: u64,
     ack: u64,
     body: &[u8],
-) -> Result<(), AllocError>
+) -> Result<(), NoMemory>
     requires { length body.now ≤ body_limit }
     ensures ok { OnOk result (out.new ≡ out.old ++ joined (when is_up (regular id ack body.now))) }
     ensures err { OnErr result (out.new ≡ out.old) }
@@ -117,7 +117,7 @@ fn mark_each(queue: &mut [Entry], now: u64)
 }
 
 /// Adds the bytes of all in the queue, or nothing.
-pub fn append_replay(queue: &[Entry], out: &mut Unwritten) -> Result<(), AllocError>
+pub fn append_replay(queue: &[Entry], out: &mut Unwritten) -> Result<(), NoMemory>
     requires { All (λ entry. length entry.body ≤ body_limit) queue.now }
     ensures ok { OnOk result (out.new ≡ out.old ++ joined (map entry_frame queue.now)) }
     ensures err { OnErr result (out.new ≡ out.old) }
@@ -129,14 +129,14 @@ pub fn append_replay(queue: &[Entry], out: &mut Unwritten) -> Result<(), AllocEr
             .is_err()
         {
             out.truncate(before);
-            return Err(AllocError);
+            return Err(NoMemory);
         }
     }
     Ok(())
 }
 
 /// Adds a frame that has only a type, or nothing.
-pub fn append_if(out: &mut Unwritten, is_written: bool, kind: u8) -> Result<(), AllocError>
+pub fn append_if(out: &mut Unwritten, is_written: bool, kind: u8) -> Result<(), NoMemory>
     requires { kind < 128 }
     ensures ok { OnOk result (out.new ≡ out.old ++ joined (when is_written (written_frame kind 0 0 []))) }
     ensures err { OnErr result (out.new ≡ out.old) }
@@ -148,7 +148,7 @@ pub fn append_if(out: &mut Unwritten, is_written: bool, kind: u8) -> Result<(), 
 }
 
 /// Adds an Ack, and the bytes of all in the queue; or nothing.
-pub fn append_rejoin(queue: &[Entry], received: u64, out: &mut Unwritten) -> Result<(), AllocError>
+pub fn append_rejoin(queue: &[Entry], received: u64, out: &mut Unwritten) -> Result<(), NoMemory>
     requires { All (λ entry. length entry.body ≤ body_limit) queue.now }
     ensures ok { OnOk result (out.new ≡ (out.old ++ joined (ack_frame received ∷ [])) ++ joined (map entry_frame queue.now)) }
     ensures err { OnErr result (out.new ≡ out.old) }
@@ -157,7 +157,7 @@ pub fn append_rejoin(queue: &[Entry], received: u64, out: &mut Unwritten) -> Res
     out.append(3, 0, received, &[])?;
     if append_replay(queue, out).is_err() {
         out.truncate(before);
-        return Err(AllocError);
+        return Err(NoMemory);
     }
     Ok(())
 }
@@ -168,7 +168,7 @@ pub fn append_tick(
     writes_ack: bool,
     writes_keep_alive: bool,
     received: u64,
-) -> Result<(), AllocError>
+) -> Result<(), NoMemory>
     ensures ok { OnOk result (out.new ≡ out.old ++ joined (when writes_ack (ack_frame received) ++ when writes_keep_alive (keep_alive_frame received))) }
     ensures err { OnErr result (out.new ≡ out.old) }
 {
@@ -177,7 +177,7 @@ pub fn append_tick(
         out.append(3, 0, received, &[])?;
         if out.append(9, 0, received, &[]).is_err() {
             out.truncate(before);
-            return Err(AllocError);
+            return Err(NoMemory);
         }
         return Ok(());
     }
@@ -210,7 +210,7 @@ pub fn remove_entries(queue: &mut Vec<Entry>, n: usize)
 }
 
 /// Adds the bytes of all in the queue behind the first n, or nothing.
-pub fn append_rest(queue: &[Entry], n: usize, out: &mut Unwritten) -> Result<(), AllocError>
+pub fn append_rest(queue: &[Entry], n: usize, out: &mut Unwritten) -> Result<(), NoMemory>
     requires n { n ≤ length queue.now }
     requires fits { All (λ entry. length entry.body ≤ body_limit) queue.now }
     ensures ok { OnOk result (out.new ≡ out.old ++ joined (map entry_frame (drop n queue.now))) }
