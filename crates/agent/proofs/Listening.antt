@@ -1,6 +1,6 @@
 -- An endpoint that has said nothing is known by its state.
 use Rattle.std.proofs.Common.{◌≡◌, ℕ, ◌+◌, ◌-◌, Bool, true, false, cond, List, [], ◌++◌, length, map, take, drop, refl, sym, ap, subst, ◌∙◌, arith}
-use Rattle.std.specs.Prelude.{Option, Some, not, ◌&&◌, nat_lt, nat_le, zero, suc, ◌==◌, if◌then◌else◌, ◌∷◌}
+use Rattle.std.specs.Prelude.{Option, Some, Result, Ok, Err, OnOk, not, ◌&&◌, nat_lt, nat_le, zero, suc, ◌==◌, if◌then◌else◌, ◌∷◌}
 use Rattle.std.proofs.Math.Seq.{drop-nil}
 use Rattle.ra_model.specs.declared.frame.Frame.{Frame}
 use Rattle.ra_model.specs.declared.session.Entry.{Entry}
@@ -8,7 +8,7 @@ use Rattle.ra_model.specs.FrameKinds.{FrameKind, frame_kind, replay_request}
 use Rattle.ra_model.specs.FrameKinds.FrameKind.{Regular, Control, Disconnect, ReplayRequest, Pause, Resume, Other}
 use Rattle.ra_model.specs.Frames.{joined}
 use Rattle.ra_model.specs.Timing.{message_heard, asked_lately}
-use Rattle.ra_model.specs.Endpoints.{Endpoint, SaidMessage, is_linked, is_ended, is_up, shown, owed, numbered, acknowledged_count}
+use Rattle.ra_model.specs.Endpoints.{Endpoint, new_endpoint, SaidMessage, is_linked, is_ended, is_up, shown, owed, numbered, acknowledged_count}
 use Rattle.ra_model.specs.EndpointStates.{EndpointState, StandsFor, with_said}
 use Rattle.ra_model.specs.Calls.{begin, moment, rewritten, replayed, checked, written_at, wrote}
 use Rattle.ra_model.specs.Taking.{on_frame, passed}
@@ -106,3 +106,46 @@ flushed_phase e = flushed_phase_if (nat_le (length (shown e)) (length (shown e))
 pub first_is_silent : IsSilent first_link
 unfolding begin rewritten owed
 first_is_silent = record { base = refl; said = refl }
+
+-- What the calls of an endpoint that listens leave
+
+pub on_ok : {T E : Type 0} (r : Result T E) (P : Type 0) → P → OnOk r P
+on_ok (Ok x) P p = p
+on_ok (Err e) P p = tt
+
+pub first_known : (s s' : EndpointState) (now : ℕ) → now ≡ 0 → StandsFor s (new_endpoint 0 now false)
+    → ((e : Endpoint) → StandsFor s e → StandsFor s' (begin 1 [] now e)) → IsKnown s' first_link
+first_known s s' now is stands call =
+    known s' first_link (subst (λ (n : ℕ). StandsFor s' (begin 1 [] n (new_endpoint 0 n false))) is (call (new_endpoint 0 now false) stands)) first_is_silent
+
+pub applied_known : (f : Frame) (s s' : EndpointState) (now : ℕ) → IsListening s → now ≡ 0
+    → ((e : Endpoint) → StandsFor s e → StandsFor s' (applied (moment now e) f e)) → IsKnown s' (after_frame f (endpoint_of s))
+applied_known f s s' now h is call =
+    let e : Endpoint = endpoint_of s in
+    let like = after_like f e refl in
+    known s' (after_frame f e) (subst (λ (n : ℕ). StandsFor s' (applied (moment n e) f e)) is (call e (stands_alone s h))) (record { base = like.base; said = like.said })
+
+pub shown_known : (s s' : EndpointState) (n : ℕ) → IsListening s → n ≡ length (shown (endpoint_of s))
+    → ((e : Endpoint) → StandsFor s e → StandsFor s' (wrote n e)) → IsKnown s' (flushed (endpoint_of s)) × IsListening s'
+shown_known s s' n h all call =
+    let e : Endpoint = endpoint_of s in
+    let like = flushed_like e refl in
+    let k : IsKnown s' (flushed e) = known s' (flushed e) (subst (λ (m : ℕ). StandsFor s' (wrote m e)) all (call e (stands_alone s h))) (record { base = like.base; said = like.said }) in (
+      k,
+      record {
+        linked = ap (λ (x : Endpoint). is_linked x.phase) (k.same) ∙ ap is_linked (flushed_phase e) ∙ h.linked;
+        sent = k.sent;
+        queue = k.queue;
+      },
+    )
+
+-- after a frame with which the peer has not left, it listens still
+pub still_listening : (f : Frame) (s s' : EndpointState) → IsListening s → endpoint_of s' ≡ after_frame f (endpoint_of s) → (s'.sent ≡ 0) × (s'.queue ≡ []) → is_ended s'.phase ≡ false → IsListening s'
+still_listening f s s' h same said there =
+    let e : Endpoint = endpoint_of s in
+    let phase : s'.phase ≡ (after_frame f e).phase = ap (λ (x : Endpoint). x.phase) same in
+    record {
+      linked = ap is_linked phase ∙ (after_like f e refl).linked h.linked (ap is_ended (sym phase) ∙ there);
+      sent = said.0;
+      queue = said.1;
+    }

@@ -13,6 +13,11 @@ use Rattle.ra_model.specs.EndpointStates.{EndpointState}
 use Rattle.ra_model.proofs.Framing.{first_frame_more, header_more}
 use Rattle.ra_model.proofs.Cuts.{found-not_too_long, too_long-more}
 use Rattle.ra_model.proofs.CuttingLemmas.{frames_step, frames_none, found_shorter, frame_bytes_some}
+use Rattle.ra_frame.specs.declared.reader.FrameFault.{FrameFault}
+use Rattle.ra_frame.specs.declared.reader.FrameFault.TheVariants.{TooLong}
+use Rattle.ra_frame.specs.Fronts.{IsTooLong}
+use Rattle.agent.specs.declared.receiver.Taken.{Taken}
+use Rattle.agent.specs.declared.receiver.Taken.TheVariants.{Refused as RefusedNow}
 use Rattle.agent.specs.declared.report.Ending.{Ending}
 use Rattle.agent.specs.declared.report.Ending.TheVariants.{Done, Refused}
 use Rattle.agent.specs.Lines.{too_long_line, end_line, over_line}
@@ -205,3 +210,14 @@ look_ended p q r f rest before after same ready h left end unread fed text =
       fed ∙ ap (λ (x : Progress). x.fed) same,
       subst (λ (x : Progress). IsOver x before r after) same look,
     )
+
+-- a fault of the reader, where it gives a last line
+pub look_fault : {E : Type 0} (p q r : Progress) (fault : FrameFault) (before after : List ℕ) (place : ℕ) (result : Result Taken E) → p ≡ q
+    → ((n : ℕ) → fault ≡ TooLong n → IsTooLong p.unread n) → place ≡ p.fed - length p.unread
+    → IfOk result (λ taken. (taken ≡ RefusedNow) × ((n : ℕ) × (fault ≡ TooLong n) × (after ≡ before ++ too_long_line n place)))
+    → IfOk result (λ taken. Looks taken q before r after)
+look_fault p q r fault before after place result same too_long at =
+    IfOk-weaker result (λ taken. (taken ≡ RefusedNow) × ((n : ℕ) × (fault ≡ TooLong n) × (after ≡ before ++ too_long_line n place))) (λ taken. Looks taken q before r after)
+    (λ taken h.
+        let long = too_long h.1.0 h.1.1 in
+        subst (λ (x : Taken). Looks x q before r after) (sym h.0) (look_too_long p q h.1.0 before after place same long.too_long long.stated at h.1.2))

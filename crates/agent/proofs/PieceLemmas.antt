@@ -1,6 +1,6 @@
 -- A piece of the input, up to the limit.
 use Rattle.std.proofs.Common.{◌≡◌, ℕ, ◌+◌, ◌-◌, ◌<◌, ◌≤◌, Bool, true, false, List, [], ◌++◌, length, take, drop, min, append_assoc, length-append, length-take, sym, ap, subst, ◌∙◌, refl, arith, rules, inl, inr}
-use Rattle.std.specs.Prelude.{nat_lt, Some, None, Option, ◌≢◌}
+use Rattle.std.specs.Prelude.{nat_lt, Some, None, Option, ◌≢◌, ◌⊎◌}
 use Rattle.std.proofs.Math.Seq.{take-add}
 use Rattle.std.proofs.lemmas.Bool.{cases_lt}
 use Rattle.std.proofs.lemmas.List.{take-append-le, take_all, drop_at}
@@ -151,3 +151,6 @@ pub turn_past : (o : Turned) (p q r : Progress) (k : ℕ) (piece before middle a
 turn_past Waiting p q r k piece before middle after is over other drained text = turn_over p q r k piece before middle after is over drained text
 turn_past RefusedThere p q r k piece before middle after is over other drained text = absurd (other refl)
 turn_past EndedThere p q r k piece before middle after is over other drained text = turn_over_end p q r k piece before middle after is over drained text
+
+pub not_refused : (o : Turned) → (o ≡ Waiting) ⊎ (o ≡ EndedThere) → o ≢ RefusedThere
+not_refused o h e = elim h [ inl w ↦ cc | inr w ↦ cc ]

@@ -76,7 +76,7 @@ fn count_rest<S: Source, K: Sink>(
 {
     let mut rest = rest;
     let mut fed = fed;
-    loop {
+    'pieces: loop {
         let Ok(count) = source.read(buffer) else {
             return Err(Fault::Read);
         };
@@ -111,7 +111,7 @@ fn receive_into<S: Source, K: Sink>(
         return Err(Fault::Memory);
     };
     let mut text = Vec::new(alloc);
-    loop {
+    'pieces: loop {
         let Ok(count) = source.read(buffer) else {
             return Err(Fault::Read);
         };

@@ -1,5 +1,5 @@
 //! The frames of one link, and the lines that they give. It reads no source and writes to no sink.
-ghost use Rattle.std.specs.Prelude.{◌≡◌, ◌≤◌, ◌<◌, ◌+◌, ◌-◌, ◌++◌, ℕ, [], length, take, min, OnOk, IfOk};
+ghost use Rattle.std.specs.Prelude.{◌≡◌, ◌≤◌, ◌<◌, ◌+◌, ◌-◌, ◌++◌, ℕ, [], length, take, min, true, false, Ok, OnOk, IfOk};
 ghost use Rattle.ra_model.specs.Endpoints.{is_ended, shown};
 ghost use Rattle.ra_model.specs.FrameKinds.{frame_kind};
 ghost use Rattle.ra_model.specs.Taking.{delivery_of};
@@ -179,7 +179,7 @@ impl Receiver {
         requires { IsReady self.old }
         ensures { IfOk result (λ turned. Drains turned self.old text.old.items self.new text.new.items) }
     {
-        loop {
+        'frames: loop {
             match self.take_frame(alloc, text)? {
                 Taken::Frame => {}
                 Taken::Nothing => return Ok(Turned::Waiting),
@@ -235,11 +235,16 @@ impl Receiver {
         let count = piece.len().min(room);
         self.feed(&piece[..count])?;
         let turned = self.drain(alloc, text)?;
-        if count == piece.len() || turned == Turned::Refused {
+        if count == piece.len() {
             return Ok(turned);
         }
-        push_over(text)?;
-        Ok(Turned::Refused)
+        match turned {
+            Turned::Refused => Ok(Turned::Refused),
+            Turned::Waiting | Turned::Ended => {
+                push_over(text)?;
+                Ok(Turned::Refused)
+            }
+        }
     }
 
     /// Adds the last line at the end of the input.

@@ -1,0 +1,11 @@
+use Rattle.std.proofs.Common.{◌≡◌, length, ap, ◌∙◌}
+use Rattle.ra_model.specs.Endpoints.{shown}
+use Rattle.agent.specs.Progress.{endpoint_of}
+use Rattle.agent.proofs.Listening.{shown_known}
+use Rattle.agent.proofs.receiver.push_shown.Goals as goal
+
+pub returns-clause-end : goal.returns-clause-end
+returns-clause-end c = (shown_known c.args.end.now c.wrote.new.self _ c.requires (ap length c.out-out.ensures) c.wrote.ensures).0.same
+
+pub returns-clause-listening : goal.returns-clause-listening
+returns-clause-listening c = (shown_known c.args.end.now c.wrote.new.self _ c.requires (ap length c.out-out.ensures) c.wrote.ensures).1
