@@ -1,9 +1,9 @@
 //! What holds of frames, of the queue of an endpoint, of every view of two endpoints and of every run of them.
 //! Each function has an empty body: its clauses are what is proved.
 ghost use Rattle.std.specs.Prelude.{◌≡◌, ℕ, suc, ◌+◌, ◌*◌, ◌<◌, ◌≤◌, Bool, Some, None, true, false, List, [], ◌∷◌, ◌++◌, length, map, drop};
-ghost use Rattle.ra_model.specs.Frames.{IsFrame, IsBytes, IsCut, Begins, HoldsNoFrame, frame_bytes, last_id};
+ghost use Rattle.ra_model.specs.Frames.{IsFrame, IsBytes, IsCut, Begins, HoldsNoFrame, frame_bytes, joined, last_id};
 ghost use Rattle.ra_model.specs.FirstFrame.{first_frame, is_too_long};
-ghost use Rattle.ra_model.specs.Cutting.{frames_of, rest_of, IsCarry};
+ghost use Rattle.ra_model.specs.Cutting.{frames_of, rest_of, places_behind, IsCarry};
 ghost use Rattle.ra_model.specs.declared.frame.Frame.{Frame};
 ghost use Rattle.ra_model.specs.Endpoints.{Endpoint, is_ended, SaidMessage, sent, owed};
 ghost use Rattle.ra_model.specs.Calls.{rewritten, begin, finish, say, control, ask_pause, ask_resume, feed, wrote, lose, leave, tick};
@@ -35,11 +35,15 @@ pub fn one_cut()
     ensures too_long { (text more : List ℕ) → is_too_long text ≡ true → HoldsNoFrame (text ++ more) }
 {}
 
-/// The cut of a text is computed frame by frame.
+/// The cut of a text is computed frame by frame, and goes on as the text does.
 pub fn cutting()
     ensures is_cut { (text : List ℕ) → IsBytes text → IsCut text (frames_of text) (rest_of text) }
     ensures step { (text : List ℕ) (f : Frame) (rest : List ℕ) → first_frame text ≡ Some (f, rest) → (frames_of text ≡ f ∷ frames_of rest) × (rest_of text ≡ rest_of rest) }
     ensures none { (text : List ℕ) → first_frame text ≡ None → (frames_of text ≡ []) × (rest_of text ≡ text) }
+    ensures more { (text more : List ℕ) → (frames_of (text ++ more) ≡ frames_of text ++ frames_of (rest_of text ++ more)) × (rest_of (text ++ more) ≡ rest_of (rest_of text ++ more)) }
+    ensures rest { (text : List ℕ) → first_frame (rest_of text) ≡ None }
+    ensures left { (text : List ℕ) → (length text ≡ length (joined (frames_of text)) + length (rest_of text)) × (drop (length (joined (frames_of text))) text ≡ rest_of text) }
+    ensures places { (at : ℕ) (fs gs : List Frame) → places_behind at (fs ++ gs) ≡ places_behind at fs ++ places_behind (at + length (joined fs)) gs }
     ensures found { (text : List ℕ) (f : Frame) (rest : List ℕ) → first_frame text ≡ Some (f, rest) → (length (frame_bytes f) ≤ length text) × (rest ≡ drop (length (frame_bytes f)) text) }
     ensures later { (text more : List ℕ) (f : Frame) (rest : List ℕ) → first_frame text ≡ Some (f, rest) → first_frame (text ++ more) ≡ Some (f, rest ++ more) }
 {}
@@ -55,7 +59,6 @@ pub fn carry()
     ensures nothing { (text : List ℕ) → first_frame text ≡ None → is_too_long text ≡ false → IsCarry text [] text }
     ensures step { (text : List ℕ) (f : Frame) (rest : List ℕ) (frames : List Frame) (left : List ℕ) → first_frame text ≡ Some (f, rest) → IsCarry rest frames left → IsCarry text (f ∷ frames) left }
     ensures more { (text piece : List ℕ) (frames more : List Frame) (rest left : List ℕ) → IsCarry text frames rest → IsCarry (rest ++ piece) more left → IsCarry (text ++ piece) (frames ++ more) left }
-    ensures is { (text : List ℕ) (frames : List Frame) (rest : List ℕ) → IsCarry text frames rest → (frames_of text ≡ frames) × (rest_of text ≡ rest) }
     ensures cut { (text : List ℕ) (frames : List Frame) (rest : List ℕ) → IsBytes text → IsCarry text frames rest → IsCut text frames rest }
 {}
 
