@@ -1,13 +1,13 @@
 -- The frames of a text, computed: one frame on, at the end, and as the text goes on.
-use Rattle.std.proofs.Common.{⊎_elim, ◌≡◌, ℕ, zero, suc, ◌+◌, ◌*◌, ◌-◌, ◌<◌, ◌≤◌, Bool, true, false, Option, Some, None, List, [], ◌∷◌, ◌++◌, length, drop, refl, ap, sym, ◌∙◌, subst, arith, append_assoc, length-append}
+use Rattle.std.proofs.Common.{⊎_elim, ◌≡◌, ℕ, zero, suc, ◌+◌, ◌*◌, ◌<◌, ◌≤◌, Bool, true, false, Option, Some, None, List, [], ◌∷◌, ◌++◌, length, drop, refl, ap, sym, ◌∙◌, subst, arith, length-append}
 use Rattle.std.proofs.lemmas.Bool.{leb-true, and_parts, cond-true, cases_lt}
 use Rattle.std.proofs.lemmas.Option.{cond_some, none-some}
-use Rattle.std.proofs.lemmas.List.{append-nil, length-drop, length-take, drop-drop, drop-append-le, get_or_append_left}
+use Rattle.std.proofs.lemmas.List.{length-drop, length-take, drop-drop, get_or_append_left}
 use Rattle.std.specs.Prelude.{nat_le}
 use Rattle.ra_model.specs.declared.frame.Frame.{Frame}
-use Rattle.ra_model.specs.Frames.{body_limit, IsBytes, IsCut, Begins, frame_bytes}
+use Rattle.ra_model.specs.Frames.{body_limit, IsBytes, IsCut, Begins, frame_bytes, joined}
 use Rattle.ra_model.specs.FirstFrame.{first_frame, split_frame, has_frame, is_wide, is_too_long, header_len, stated}
-use Rattle.ra_model.specs.Cutting.{cut_from, cut_within, frames_of, rest_of, IsCarry}
+use Rattle.ra_model.specs.Cutting.{cut_from, cut_within, frames_of, rest_of, places_behind, IsCarry}
 use Rattle.ra_model.proofs.Framing.{first_frame-none, first_frame-nil, first_frame_more, header_some, length-frame_bytes, cut_unique, header_more, has_from}
 use Rattle.ra_model.proofs.Reading.{first_frame-some}
 use Rattle.ra_model.proofs.Cuts.{cut_cons, cut_nil, bytes_right}
@@ -128,74 +128,97 @@ is_cut text fits = cut_within_is (length text) text (omega arith) fits
 pub cut_is : (text : List ℕ) (frames : List Frame) (rest : List ℕ) → IsBytes text → IsCut text frames rest → (frames ≡ frames_of text) × (rest ≡ rest_of text)
 cut_is text frames rest fits cut = cut_unique frames (frames_of text) text rest (rest_of text) cut (is_cut text fits)
 
--- What a reader has read, and has not
+-- The text is its frames and its rest, however it goes on
 
-pub carry_nothing : (text : List ℕ) → first_frame text ≡ None → is_too_long text ≡ false → IsCarry text [] text
-carry_nothing text none within = record {
-  frames_later = λ more. refl;
-  rest_later = λ more. refl;
-  none = none;
-  within = within;
-  inside = omega arith;
-  left = (let same : length text - length text ≡ 0 = omega arith in ap (λ (n : ℕ). drop n text) same);
-}
+record Parts (text : List ℕ) (frames : List Frame) (rest : List ℕ) : Type 0 where
+  frames_later : (more : List ℕ) → frames_of (text ++ more) ≡ frames ++ frames_of (rest ++ more)
+  rest_later : (more : List ℕ) → rest_of (text ++ more) ≡ rest_of (rest ++ more)
+  none : first_frame rest ≡ None
+  size : length text ≡ length (joined frames) + length rest
+  left : drop (length (joined frames)) text ≡ rest
 
-pub carry_step : (text : List ℕ) (f : Frame) (rest : List ℕ) (frames : List Frame) (left : List ℕ) → first_frame text ≡ Some (f, rest) → IsCarry rest frames left → IsCarry text (f ∷ frames) left
-carry_step text f rest frames left is c =
-    let parts = found_parts text f rest is in
+parts_nothing : (text : List ℕ) → first_frame text ≡ None → Parts text [] text
+parts_nothing text none = record { frames_later = λ more. refl; rest_later = λ more. refl; none = none; size = omega arith; left = refl }
+
+parts_step : (text : List ℕ) (f : Frame) (rest : List ℕ) (frames : List Frame) (left : List ℕ) → first_frame text ≡ Some (f, rest) → Parts rest frames left → Parts text (f ∷ frames) left
+parts_step text f rest frames left is c =
+    let behind = (found_parts text f rest is).1 in
     let shorter : length text ≡ length (frame_bytes f) + length rest = found_shorter text f rest is in
-    let inside : length left ≤ length rest = c.inside in
-    let after : length (frame_bytes f) + (length rest - length left) ≡ length text - length left = omega arith in
+    let others : length rest ≡ length (joined frames) + length left = c.size in
+    let both : length (joined (f ∷ frames)) ≡ length (frame_bytes f) + length (joined frames) = length-append (frame_bytes f) (joined frames) in
     record {
       frames_later = λ more. (frames_step (text ++ more) f (rest ++ more) (first_frame_more text more f rest is)).0 ∙ ap (λ (fs : List Frame). f ∷ fs) (c.frames_later more);
       rest_later = λ more. (frames_step (text ++ more) f (rest ++ more) (first_frame_more text more f rest is)).1 ∙ c.rest_later more;
       none = c.none;
-      within = c.within;
-      inside = omega arith;
-      left = sym (ap (λ (n : ℕ). drop n text) after) ∙ sym (drop-drop (length rest - length left) (length (frame_bytes f)) text)
-          ∙ ap (λ (t : List ℕ). drop (length rest - length left) t) (sym parts.1) ∙ c.left;
+      size = omega arith;
+      left = ap (λ (n : ℕ). drop n text) both ∙ sym (drop-drop (length (joined frames)) (length (frame_bytes f)) text)
+          ∙ ap (λ (t : List ℕ). drop (length (joined frames)) t) (sym behind) ∙ c.left;
     }
+
+parts_at : (n : ℕ) (text : List ℕ) (found : Option (Frame × List ℕ)) → first_frame text ≡ found → length text ≤ suc n
+    → ((rest : List ℕ) → length rest ≤ n → Parts rest (frames_of rest) (rest_of rest)) → Parts text (frames_of text) (rest_of text)
+parts_at n text None is size next =
+    let e = frames_none text is in
+    subst (λ (c : List Frame × List ℕ). Parts text c.0 c.1) (λ i. (sym e.0 i, sym e.1 i)) (parts_nothing text is)
+parts_at n text (Some found) is size next =
+    let e = frames_step text found.0 found.1 is in
+    let shorter : length text ≡ length (frame_bytes found.0) + length found.1 = found_shorter text found.0 found.1 is in
+    let some : 0 < length (frame_bytes found.0) = frame_bytes_some found.0 in
+    let fits : length found.1 ≤ n = omega arith in
+    subst (λ (c : List Frame × List ℕ). Parts text c.0 c.1) (λ i. (sym e.0 i, sym e.1 i)) (parts_step text found.0 found.1 (frames_of found.1) (rest_of found.1) is (next found.1 fits))
+
+parts_within : (n : ℕ) (text : List ℕ) → length text ≤ n → Parts text (frames_of text) (rest_of text)
+parts_within zero [] size =
+    let e = frames_none [] first_frame-nil in
+    subst (λ (c : List Frame × List ℕ). Parts [] c.0 c.1) (λ i. (sym e.0 i, sym e.1 i)) (parts_nothing [] first_frame-nil)
+parts_within zero (b ∷ text) size = absurd (omega arith)
+parts_within (suc n) text size = parts_at n text (first_frame text) refl size (parts_within n)
+
+parts : (text : List ℕ) → Parts text (frames_of text) (rest_of text)
+parts text = parts_within (length text) text (omega arith)
+
+pub frames_more : (text more : List ℕ) → (frames_of (text ++ more) ≡ frames_of text ++ frames_of (rest_of text ++ more)) × (rest_of (text ++ more) ≡ rest_of (rest_of text ++ more))
+frames_more text more = ((parts text).frames_later more, (parts text).rest_later more)
+
+pub rest_none : (text : List ℕ) → first_frame (rest_of text) ≡ None
+rest_none text = (parts text).none
+
+pub rest_left : (text : List ℕ) → (length text ≡ length (joined (frames_of text)) + length (rest_of text)) × (drop (length (joined (frames_of text))) text ≡ rest_of text)
+rest_left text = ((parts text).size, (parts text).left)
+
+-- the places behind the frames of a text, and of what follows them
+pub places_more : (at : ℕ) (fs gs : List Frame) → places_behind at (fs ++ gs) ≡ places_behind at fs ++ places_behind (at + length (joined fs)) gs
+places_more at [] gs = let same : at + length (joined []) ≡ at = omega arith in ap (λ (n : ℕ). places_behind n gs) (sym same)
+places_more at (f ∷ fs) gs =
+    let next : ℕ = at + length (frame_bytes f) in
+    let both : length (joined (f ∷ fs)) ≡ length (frame_bytes f) + length (joined fs) = length-append (frame_bytes f) (joined fs) in
+    let same : next + length (joined fs) ≡ at + length (joined (f ∷ fs)) = omega arith in
+    ap (λ (ns : List ℕ). next ∷ ns) (places_more next fs gs ∙ ap (λ (n : ℕ). places_behind next fs ++ places_behind n gs) same)
+
+-- What a reader has read, and has not
+
+pub carry_nothing : (text : List ℕ) → first_frame text ≡ None → is_too_long text ≡ false → IsCarry text [] text
+carry_nothing text none within = let e = frames_none text none in record { frames_are = e.0; rest_is = e.1; within = within }
+
+pub carry_step : (text : List ℕ) (f : Frame) (rest : List ℕ) (frames : List Frame) (left : List ℕ) → first_frame text ≡ Some (f, rest) → IsCarry rest frames left → IsCarry text (f ∷ frames) left
+carry_step text f rest frames left is c =
+    let e = frames_step text f rest is in
+    record { frames_are = e.0 ∙ ap (λ (fs : List Frame). f ∷ fs) c.frames_are; rest_is = e.1 ∙ c.rest_is; within = c.within }
 
 pub carry_more : (text piece : List ℕ) (frames more : List Frame) (rest left : List ℕ) → IsCarry text frames rest → IsCarry (rest ++ piece) more left → IsCarry (text ++ piece) (frames ++ more) left
 carry_more text piece frames more rest left a b =
-    let whole : length (text ++ piece) ≡ length text + length piece = length-append text piece in
-    let behind : length (rest ++ piece) ≡ length rest + length piece = length-append rest piece in
-    let low : length rest ≤ length text = a.inside in
-    let inside : length left ≤ length (rest ++ piece) = b.inside in
-    let place : (length text - length rest) + (length (rest ++ piece) - length left) ≡ length (text ++ piece) - length left = omega arith in
-    let fits : length text - length rest ≤ length text = omega arith in
+    let e = frames_more text piece in
+    let fed : rest_of text ++ piece ≡ rest ++ piece = ap (λ (t : List ℕ). t ++ piece) a.rest_is in
     record {
-      frames_later = λ next.
-          ap frames_of (append_assoc text piece next) ∙ a.frames_later (piece ++ next)
-          ∙ ap (λ (t : List ℕ). frames ++ frames_of t) (sym (append_assoc rest piece next))
-          ∙ ap (λ (fs : List Frame). frames ++ fs) (b.frames_later next) ∙ sym (append_assoc frames more (frames_of (left ++ next)));
-      rest_later = λ next.
-          ap rest_of (append_assoc text piece next) ∙ a.rest_later (piece ++ next) ∙ ap rest_of (sym (append_assoc rest piece next)) ∙ b.rest_later next;
-      none = b.none;
+      frames_are = e.0 ∙ ap (λ (fs : List Frame). fs ++ frames_of (rest_of text ++ piece)) a.frames_are ∙ ap (λ (t : List ℕ). frames ++ frames_of t) fed ∙ ap (λ (fs : List Frame). frames ++ fs) b.frames_are;
+      rest_is = e.1 ∙ ap rest_of fed ∙ b.rest_is;
       within = b.within;
-      inside = omega arith;
-      left = sym (ap (λ (n : ℕ). drop n (text ++ piece)) place)
-          ∙ sym (drop-drop (length (rest ++ piece) - length left) (length text - length rest) (text ++ piece))
-          ∙ ap (λ (t : List ℕ). drop (length (rest ++ piece) - length left) t) (drop-append-le (length text - length rest) text piece fits)
-          ∙ ap (λ (t : List ℕ). drop (length (rest ++ piece) - length left) (t ++ piece)) a.left
-          ∙ b.left;
     }
-
--- the frames that were read are those of the text, and the rest is its rest
-pub carry_is : (text : List ℕ) (frames : List Frame) (rest : List ℕ) → IsCarry text frames rest → (frames_of text ≡ frames) × (rest_of text ≡ rest)
-carry_is text frames rest c =
-    let none = frames_none rest c.none in
-    let whole : text ++ [] ≡ text = append-nil text in
-    let end : rest ++ [] ≡ rest = append-nil rest in (
-      sym (ap frames_of whole) ∙ c.frames_later [] ∙ ap (λ (t : List ℕ). frames ++ frames_of t) end ∙ ap (λ (fs : List Frame). frames ++ fs) none.0 ∙ append-nil frames,
-      sym (ap rest_of whole) ∙ c.rest_later [] ∙ ap rest_of end ∙ none.1,
-    )
 
 pub carry_cut : (text : List ℕ) (frames : List Frame) (rest : List ℕ) → IsBytes text → IsCarry text frames rest → IsCut text frames rest
 carry_cut text frames rest fits c =
-    let is = carry_is text frames rest c in
-    let first : IsCut text frames (rest_of text) = subst (λ (fs : List Frame). IsCut text fs (rest_of text)) is.0 (is_cut text fits) in
-    subst (λ (t : List ℕ). IsCut text frames t) is.1 first
+    let first : IsCut text frames (rest_of text) = subst (λ (fs : List Frame). IsCut text fs (rest_of text)) c.frames_are (is_cut text fits) in
+    subst (λ (t : List ℕ). IsCut text frames t) c.rest_is first
 
 -- How many frames there are
 

@@ -304,6 +304,9 @@ first_of_joined (g ∷ gs) all text more f rest is whole =
     whole ∙ ap (λ (x : Frame). frame_bytes x ++ joined gs) parts.0 ∙ ap (λ (t : List ℕ). frame_bytes f ++ t) parts.1 ∙ sym (append_assoc (frame_bytes f) rest more) in
     (gs, ap (λ (x : Frame). x ∷ gs) parts.0, sym parts.1, append_cancel_right text (frame_bytes f ++ rest) more front)
 
+rest_step : (g : Frame) (gs fs others more : List Frame) → fs ≡ g ∷ others → others ≡ gs ++ more → fs ≡ (g ∷ gs) ++ more
+rest_step g gs fs others more a b = a ∙ ap (λ (xs : List Frame). g ∷ xs) b
+
 -- a text of frames that begins with these frames goes on as frames
 pub rest_of_joined : (gs fs : List Frame) → AllByRecursion IsFrame gs → AllByRecursion IsFrame fs → (text : List ℕ) → joined gs ++ text ≡ joined fs
     → (others : List Frame) × (fs ≡ gs ++ others) × (text ≡ joined others)
@@ -314,4 +317,4 @@ rest_of_joined (g ∷ gs) fs a b text whole =
     let first = first_of_joined fs b (frame_bytes g) (joined gs ++ text) g [] is regrouped in
     let tail : AllByRecursion IsFrame first.0 = all_tail g first.0 (subst (λ (xs : List Frame). AllByRecursion IsFrame xs) first.1 b) in
     let others = rest_of_joined gs first.0 a.1 tail text first.2 in
-    (others.0, first.1 ∙ ap (λ (xs : List Frame). g ∷ xs) others.1, others.2)
+    (others.0, rest_step g gs fs first.0 others.0 first.1 others.1, others.2)

@@ -85,6 +85,20 @@ module _ {to : Side} {epoch : ℕ} {linked : Bool} {unread : List ℕ} {applied 
             (λ p. absurd (p.0 refl)) (put_cases links epoch' epoch' l' x is);
       }
 
+  -- bytes of an earlier link, or of the last one once it is lost, are read and dropped
+  pub incoming_skipped : (n k : ℕ) (l l' : Link) → n ≤ epoch → (n ≡ epoch → linked ≡ false) → at_number links n ≡ Some l → (direction_to to l').read ≡ (direction_to to l).read + k → (direction_to to l').written ≡ (direction_to to l).written → (direction_to to l).read + k ≤ length (direction_to to l).written
+      → HasRead to epoch linked unread applied (put_number links n l')
+  incoming_skipped n k l l' low lost at read same fits = record {
+    frames = h.frames;
+    inside = λ m x is. ⊎_elim (λ p. subst (λ (y : Link). (direction_to to y).read ≤ length (direction_to to y).written) p.1 (rw (read, same) fits)) (λ p. h.inside m x p.1) (put_cases links n m l' x is);
+    fresh = λ m x is later. ⊎_elim (λ p. let e : m ≡ n = p.0 in absurd (omega arith)) (λ p. h.fresh m x p.1 later) (put_cases links n m l' x is);
+    there = λ up.
+        let t = h.there up in
+        let other : epoch ≡ n → ⊥ = λ e. false≢true (sym (lost (sym e)) ∙ up) in
+        (t.0, put_other links n epoch l' t.0 other t.1);
+    carry = λ x is up. ⊎_elim (λ p. absurd (false≢true (sym (lost (sym p.0)) ∙ up))) (λ p. h.carry x p.1 up) (put_cases links n epoch l' x is);
+  }
+
   -- another link is made
   pub incoming_linked : epoch ≤ length links → HasRead to epoch linked unread applied (links ++ new_link ∷ [])
   incoming_linked known = record {

@@ -17,7 +17,7 @@ use Rattle.ra_model.specs.Pairs.{messages}
 use Rattle.ra_model.proofs.Away.{away_begin, away_feed, away_wrote}
 use Rattle.ra_model.proofs.Numbers.{at_number_within, put_cases}
 use Rattle.ra_model.proofs.Outgoing.{outgoing_linked, outgoing_elsewhere, outgoing_wrote, outgoing_vanish}
-use Rattle.ra_model.proofs.Incoming.{incoming_linked, incoming_elsewhere, incoming_fed, incoming_begun}
+use Rattle.ra_model.proofs.Incoming.{incoming_linked, incoming_elsewhere, incoming_fed, incoming_begun, incoming_skipped}
 use Rattle.ra_model.proofs.Calls.{outgoing_begin, messages_rewritten}
 use Rattle.ra_model.proofs.Kept.{Kept, kept_wrote}
 use Rattle.ra_model.proofs.Sound.{agrees_more, agrees_same, view_call}
@@ -204,6 +204,22 @@ view_feed start s i j p o links k epoch l now v at fits can =
       };
       back = record { prefix = v.back.prefix; count = received_fed epoch piece now p.endpoint ∙ v.back.count; acked = v.back.acked; low = v.back.low };
     }
+
+-- bytes of an earlier link, or of the last one once it is lost, are read and dropped
+pub view_skips : (start : ℕ) (s : Side) (i j : ℕ) (p o : Peer) (links : List Link) (n k : ℕ) (l : Link) → View start s i j p o links → n ≤ i → (n ≡ i → is_linked p.endpoint.phase ≡ false) → at_number links n ≡ Some l → k ≤ length (readable s l)
+    → View start s i j p o (put_number links n (read_on s k l))
+view_skips start s i j p o links n k l v low lost at fits = record {
+  base = v.base;
+  their_base = v.their_base;
+  mine = outgoing_reading s i p.endpoint links n k l v.mine at;
+  reads = incoming_skipped v.reads n k l (read_on s k l) low lost at (read_count s k l) (read_text s k l) (piece_fits s l k (v.reads.inside n l at) fits);
+  theirs = outgoing_read s j o.endpoint links n k l v.theirs at;
+  their_reads = incoming_read s j o.endpoint o.applied links n k l v.their_reads at;
+  out = v.out;
+  back = v.back;
+  away = v.away;
+  their_away = v.their_away;
+}
 
 pub view_linked : (start : ℕ) (s : Side) (i j : ℕ) (p o : Peer) (links : List Link) → View start s i j p o links → View start s i j p o (links ++ new_link ∷ [])
 view_linked start s i j p o links v = record {

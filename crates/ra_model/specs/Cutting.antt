@@ -1,7 +1,8 @@
 -- The frames that are read from a text one after the other, and the rest in which no further one is found.
 -- `IsCut` says what the cut of a text is. These compute it.
-use Rattle.std.specs.Prelude.{◌≡◌, ℕ, zero, suc, ◌-◌, ◌≤◌, false, Option, Some, None, List, [], ◌∷◌, ◌++◌, length, drop}
+use Rattle.std.specs.Prelude.{◌≡◌, ℕ, zero, suc, ◌+◌, false, Option, Some, None, List, [], ◌∷◌, length}
 use Rattle.ra_model.specs.declared.frame.Frame.{Frame}
+use Rattle.ra_model.specs.Frames.{frame_bytes}
 use Rattle.ra_model.specs.FirstFrame.{first_frame, is_too_long}
 
 -- the frame that was found in a text and the cut of what follows it, or no frame and the text
@@ -21,12 +22,14 @@ frames_of text = (cut_within (length text) text).0
 unfoldable pub rest_of : List ℕ → List ℕ
 rest_of text = (cut_within (length text) text).1
 
--- A reader has read these frames of a text, and the rest is unread: no frame is found in it, and its header states no body above
--- the limit. However the text goes on, the frames that follow are those of the rest as it goes on.
+-- the place behind each of these frames, where they stand one after the other from this place on
+abbrev pub places_behind : ℕ → List Frame → List ℕ
+places_behind at [] = []
+places_behind at (f ∷ fs) = (at + length (frame_bytes f)) ∷ places_behind (at + length (frame_bytes f)) fs
+
+-- A reader has read these frames of a text, and this rest is unread: it read all frames of the text, and the header of the rest
+-- states no body above the limit.
 pub record IsCarry (text : List ℕ) (frames : List Frame) (rest : List ℕ) : Type 0 where
-  pub frames_later : (more : List ℕ) → frames_of (text ++ more) ≡ frames ++ frames_of (rest ++ more)
-  pub rest_later : (more : List ℕ) → rest_of (text ++ more) ≡ rest_of (rest ++ more)
-  pub none : first_frame rest ≡ None
+  pub frames_are : frames_of text ≡ frames
+  pub rest_is : rest_of text ≡ rest
   pub within : is_too_long rest ≡ false
-  pub inside : length rest ≤ length text
-  pub left : drop (length text - length rest) text ≡ rest

@@ -9,7 +9,7 @@ use Rattle.ra_model.specs.Endpoints.{Endpoint, SaidMessage, is_linked, shown, ne
 use Rattle.ra_base.specs.declared.event.Side.{Side}
 use Rattle.ra_model.specs.Links.{Link, other, direction_to, at_number}
 use Rattle.ra_model.specs.Calls.{lose, wrote}
-use Rattle.ra_model.specs.Worlds.{Peer, with_endpoint}
+use Rattle.ra_model.specs.Worlds.{Peer, World, with_endpoint, peer}
 use Rattle.ra_model.specs.Pairs.{body_of, messages, IsPrefixOf, IsJoining, IsFront, IsLater}
 
 -- a message may be written again: its ack is no more than was received, and its body fits a frame
@@ -78,6 +78,14 @@ pub record View (start : ℕ) (s : Side) (i j : ℕ) (p o : Peer) (links : List 
 abbrev pub new_peer : ℕ → ℕ → Bool → Peer
 new_peer base now keeps_alive = record { endpoint = new_endpoint base now keeps_alive; heard = []; applied = [] }
 
+-- the view of a world from a side: there the epoch of an endpoint is the number of its link
+abbrev pub WorldView : ℕ → Side → World → Type 0
+WorldView base s w = View base s (peer s w).endpoint.epoch (peer (other s) w).endpoint.epoch (peer s w) (peer (other s) w) w.links
+
+-- what holds wherever there is a view
+abbrev pub InEveryView : (ℕ → Side → ℕ → ℕ → Peer → Peer → List Link → Type 0) → Type 0
+InEveryView P = (start : ℕ) (s : Side) (i j : ℕ) (p o : Peer) (links : List Link) → View start s i j p o links → P start s i j p o links
+
 -- Moves
 
 -- the peer once its endpoint has made this call
@@ -86,7 +94,7 @@ called call p = with_endpoint (call p.endpoint) p
 
 -- what holds between two endpoints still holds when the one at this side is changed so
 abbrev pub KeepsViews : (Peer → Peer) → Type 0
-KeepsViews f = (start : ℕ) (s : Side) (i j : ℕ) (p o : Peer) (links : List Link) → View start s i j p o links → View start s i j (f p) o links
+KeepsViews f = InEveryView (λ start s i j p o links. View start s i j (f p) o links)
 
 -- it takes nothing back
 abbrev pub OnlyGrows : (Peer → Peer) → Type 0
