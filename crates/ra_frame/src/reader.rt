@@ -5,6 +5,7 @@ ghost use Rattle.std.specs.Prelude.{◌≡◌, ◌≤◌, ◌++◌, ℕ, List, [
 ghost use Rattle.ra_model.specs.Frames.{Begins, HoldsNoFrame};
 ghost use Rattle.ra_model.specs.FirstFrame.{first_frame, is_too_long};
 ghost use Rattle.ra_frame.specs.Fronts.{IsPartial, IsTooLong};
+ghost use Rattle.ra_frame.specs.FaultTexts.{fault_text};
 ghost use Rattle.ra_frame.specs.declared.reader.FrameFault.TheVariants.{NoMemory as OutOfMemory};
 
 use crate::front::{Front, frame_at, front_of, header_len};
@@ -25,6 +26,8 @@ pub enum FrameFault {
 }
 
 impl fmt::Display for FrameFault {
+    ghost output = { λ fault. Some (fault_text fault) };
+
     fn fmt<W: fmt::Write>(&self, f: &mut fmt::Formatter<W>) -> fmt::Result {
         match self {
             FrameFault::TooLong { stated } => write!(f, "a body of {stated} bytes"),
