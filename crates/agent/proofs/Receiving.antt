@@ -10,13 +10,14 @@ use Rattle.ra_model.proofs.Framing.{first_frame-nil}
 use Rattle.ra_ports.specs.Texts.{Told}
 use Rattle.agent.specs.declared.report.Ending.{Ending}
 use Rattle.agent.specs.declared.report.Ending.TheVariants.{Done, Refused}
-use Rattle.agent.specs.declared.receiver.Turned.TheVariants.{Waiting}
+use Rattle.agent.specs.declared.receiver.Turned.{Turned}
+use Rattle.agent.specs.declared.receiver.Turned.TheVariants.{Waiting, Refused as RefusedThere, Ended as EndedThere}
 use Rattle.agent.specs.Lines.{end_line, over_line}
 use Rattle.agent.specs.Receive.{Report, prefixed, report, after_end, receive_report, input_limit, first_link}
 use Rattle.agent.specs.Progress.{Progress, IsReady, IsWaiting, Turns, endpoint_of, due, due_input, due_after_end}
 use Rattle.agent.proofs.Outlooks.{end_on}
 use Rattle.agent.proofs.PieceLemmas.{over_both}
-use Rattle.agent.proofs.Runs.{Stands, stands_at_start, stands_on, counts_on}
+use Rattle.agent.proofs.Runs.{Stands, ComesNext, stands_at_start, stands_on, counts_on, next_on, next_last}
 
 -- the last line at the end of the input
 pub last_line : (p : Progress) → IsWaiting p.unread → due_input p [] ≡ record { text = end_line p.end.received (length p.unread); ending = Done }
@@ -70,7 +71,25 @@ under_way_on left taken lo lo' to to' p q reads reads' reads'' writes writes' wr
   sink_faults = omega (arith, u.sink_faults, w);
 }
 
+-- what a piece gave comes next
+pub next_of_turn : (o : Turned) (lo lo' : Option (List ℕ)) (p q : Progress) (piece text : List ℕ) → Consumes lo lo' piece → Turns o p [] piece q text → ComesNext (due_input p) lo text
+next_of_turn Waiting lo lo' p q piece text read turn = next_on (due_input p) (due_input q) lo lo' piece text read turn.3
+next_of_turn RefusedThere lo lo' p q piece text read turn = next_last (due_input p) lo lo' piece text Refused read turn
+next_of_turn EndedThere lo lo' p q piece text read turn = next_on (due_input p) (due_after_end q.end.received (length q.unread) q.fed) lo lo' piece text read turn.1
+
+-- the text that the lines were added to was empty
+pub turn_text : (o o' : Turned) (p q : Progress) (before piece after : List ℕ) → before ≡ [] → o ≡ o' → Turns o p before piece q after → Turns o' p [] piece q after
+turn_text o o' p q before piece after none is turn = subst (λ (x : Turned). Turns x p [] piece q after) is (subst (λ (t : List ℕ). Turns o p t piece q after) none turn)
+
 -- Once the peer has left
+
+pub ended_told : (left taken lo lo' to to' : Option (List ℕ)) (p q : Progress) (reads reads' writes writes' heard rest fed : ℕ) (piece text : List ℕ)
+    → IsUnderWay left taken lo to p reads reads' writes writes' → Consumes lo lo' piece → Turns EndedThere p [] piece q text → Appends to to' text
+    → heard ≡ q.end.received → rest ≡ length q.unread → fed ≡ q.fed
+    → Told left taken (λ input before. Stands receive_report (due_after_end heard rest fed) input before lo' to')
+ended_told left taken lo lo' to to' p q reads reads' writes writes' heard rest fed piece text u read turn wrote h r f = λ input before source sink.
+    subst (λ (due : List ℕ → Report). Stands receive_report due input before lo' to') (λ i. due_after_end (sym h i) (sym r i) (sym f i))
+    (stands_on receive_report (due_input p) (due_after_end q.end.received (length q.unread) q.fed) input before lo lo' to to' piece text (u.told input before source sink) read turn.1 wrote)
 
 pub counted_end : (heard rest fed : ℕ) → due_after_end heard rest fed [] ≡ record { text = end_line heard rest; ending = Done }
 unfolding due_after_end
@@ -96,28 +115,31 @@ counted_on heard rest fed k piece left is room =
     ∙ ap (λ (n : ℕ). after_end heard (rest + k + length left) (nat_lt n (length left))) behind
 
 -- what follows is counted
-pub record IsCounting (left taken left' taken' : Option (List ℕ)) (heard rest fed rest' fed' reads reads' : ℕ) : Type 0 where
+pub record IsCounting (left taken left' taken' : Option (List ℕ)) (heard rest fed rest' fed' reads reads' writes writes' : ℕ) : Type 0 where
   pub told : Told left taken (λ input before. Stands (due_after_end heard rest fed) (due_after_end heard rest' fed') input before left' taken')
   pub within : rest' ≤ fed'
   pub limited : fed' ≤ input_limit
-  pub faults : reads ≤ reads'
+  pub source_faults : reads ≤ reads'
+  pub sink_faults : writes ≤ writes'
 
-pub counting_at_start : (left taken : Option (List ℕ)) (heard rest fed reads : ℕ) → rest ≤ fed → fed ≤ input_limit → IsCounting left taken left taken heard rest fed rest fed reads reads
-counting_at_start left taken heard rest fed reads within limited = record {
+pub counting_at_start : (left taken : Option (List ℕ)) (heard rest fed reads writes : ℕ) → rest ≤ fed → fed ≤ input_limit → IsCounting left taken left taken heard rest fed rest fed reads reads writes writes
+counting_at_start left taken heard rest fed reads writes within limited = record {
   told = λ input before source sink. stands_at_start (due_after_end heard rest fed) (due_after_end heard rest fed) input before left taken (λ more. refl) source sink;
   within = within;
   limited = limited;
-  faults = omega arith;
+  source_faults = omega arith;
+  sink_faults = omega arith;
 }
 
-pub counting_on : (left taken lo lo' to : Option (List ℕ)) (heard rest fed rest' fed' reads reads' reads'' k : ℕ) (piece : List ℕ)
-    → IsCounting left taken lo to heard rest fed rest' fed' reads reads' → Consumes lo lo' piece → k ≡ length piece → k ≤ input_limit - fed' → reads' ≤ reads''
-    → IsCounting left taken lo' to heard rest fed (rest' + k) (fed' + k) reads reads''
-counting_on left taken lo lo' to heard rest fed rest' fed' reads reads' reads'' k piece u read is room r = record {
+pub counting_on : (left taken lo lo' to : Option (List ℕ)) (heard rest fed rest' fed' reads reads' reads'' writes writes' k : ℕ) (piece : List ℕ)
+    → IsCounting left taken lo to heard rest fed rest' fed' reads reads' writes writes' → Consumes lo lo' piece → k ≡ length piece → k ≤ input_limit - fed' → reads' ≤ reads''
+    → IsCounting left taken lo' to heard rest fed (rest' + k) (fed' + k) reads reads'' writes writes'
+counting_on left taken lo lo' to heard rest fed rest' fed' reads reads' reads'' writes writes' k piece u read is room r = record {
   told = λ input before source sink.
       counts_on (due_after_end heard rest fed) (due_after_end heard rest' fed') (due_after_end heard (rest' + k) (fed' + k)) input before lo lo' to piece (u.told input before source sink) read
       (λ left. counted_on heard rest' fed' k piece left is room);
   within = omega (arith, u.within);
   limited = omega (arith, u.limited, room);
-  faults = omega (arith, u.faults, r);
+  source_faults = omega (arith, u.source_faults, r);
+  sink_faults = u.sink_faults;
 }

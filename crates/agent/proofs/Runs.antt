@@ -1,9 +1,9 @@
 -- A run over a source and a sink, piece by piece: what is printed for all of the input, and what is still printed for the rest.
 use Rattle.std.proofs.Common.{◌≡◌, ℕ, ◌+◌, ◌-◌, ◌≤◌, Bool, false, List, [], ◌++◌, length, take, drop, append_assoc, append-nil, sym, ap, subst, ◌∙◌, refl, arith, rules}
-use Rattle.std.specs.Prelude.{nat_lt, Option, Some, None, Result, Ok, Err, OnErr}
+use Rattle.std.specs.Prelude.{nat_lt, Option, Some, None, Result, Ok, Err, OnOk, OnErr, IfOk}
 use Rattle.std.specs.Io.KnownBytes.{Appends, Consumes, IsAtEnd, Keeps}
 use Rattle.std.proofs.lemmas.List.{take_all, take-append-drop}
-use Rattle.ra_ports.specs.Causes.{AppendsFront}
+use Rattle.ra_ports.specs.Causes.{AppendsFront, Rose}
 use Rattle.ra_ports.specs.Texts.{Told, WroteAll, WroteFront}
 use Rattle.agent.specs.declared.report.Ending.{Ending}
 use Rattle.agent.specs.declared.report.Ending.TheVariants.{Done}
@@ -222,3 +222,50 @@ wrote_front printed due input before lo to to' text s next wrote =
 -- nothing was written
 pub wrote_none : (printed : List ℕ → Report) (input before : List ℕ) (to : Option (List ℕ)) → to ≡ Some before → WroteFront before (printed input).text to
 wrote_none printed input before to is = record { written = []; more = (printed input).text; parts = refl; now = is ∙ ap (λ (t : List ℕ). Some t) (sym (append-nil before)) }
+
+-- A run that ends by one text, written whole or in part
+
+pub done_by : {E : Type 0} (r : Result Ending E) (printed due : List ℕ → Report) (lo to lo' to' from taken : Option (List ℕ)) (text : List ℕ) (end : Ending)
+    → Told from taken (λ input before. Stands printed due input before lo to)
+    → ((input before : List ℕ) → Stands printed due input before lo to → Appends to to' text → IsReported printed input before end lo' to')
+    → OnOk r (Appends to to' text) → IfOk r (λ ending. ending ≡ end) → IfOk r (λ ending. Told from taken (λ input before. IsReported printed input before ending lo' to'))
+done_by (Ok x) printed due lo to lo' to' from taken text end told ends wrote is = λ input before source sink.
+    subst (λ (e : Ending). IsReported printed input before e lo' to') (sym is) (ends input before (told input before source sink) wrote)
+done_by (Err e) printed due lo to lo' to' from taken text end told ends wrote is = tt
+
+pub front_by : {T E : Type 0} (r : Result T E) (printed due : List ℕ → Report) (lo to to' from taken : Option (List ℕ)) (text : List ℕ)
+    → Told from taken (λ input before. Stands printed due input before lo to) → ComesNext due lo text → OnErr r (AppendsFront to to' text)
+    → OnErr r (Told from taken (λ input before. WroteFront before (printed input).text to'))
+front_by (Ok x) printed due lo to to' from taken text told next wrote = tt
+front_by (Err e) printed due lo to to' from taken text told next wrote = λ input before source sink.
+    wrote_front printed due input before lo to to' text (told input before source sink) next wrote
+
+pub rose_from : (a b c : ℕ) → a ≤ b → Rose b c → Rose a c
+rose_from a b c le rose = omega arith
+
+-- A run that another call goes on with
+
+pub done_from : {E : Type 0} (r : Result Ending E) (printed due : List ℕ → Report) (from taken lo to lo' to' : Option (List ℕ))
+    → Told from taken (λ input before. Stands printed due input before lo to)
+    → IfOk r (λ ending. Told lo to (λ input before. IsReported due input before ending lo' to'))
+    → IfOk r (λ ending. Told from taken (λ input before. IsReported printed input before ending lo' to'))
+done_from (Ok x) printed due from taken lo to lo' to' told done = λ input before source sink.
+    let s = told input before source sink in
+    reported_from printed due input before lo to lo' to' x s (done s.rest (before ++ s.written) s.source s.sink)
+done_from (Err e) printed due from taken lo to lo' to' told done = tt
+
+pub front_on : {T E : Type 0} (r : Result T E) (printed due : List ℕ → Report) (from taken lo to to' : Option (List ℕ))
+    → Told from taken (λ input before. Stands printed due input before lo to)
+    → OnErr r (Told lo to (λ input before. WroteFront before (due input).text to'))
+    → OnErr r (Told from taken (λ input before. WroteFront before (printed input).text to'))
+front_on (Ok x) printed due from taken lo to to' told wrote = tt
+front_on (Err e) printed due from taken lo to to' told wrote = λ input before source sink.
+    let s = told input before source sink in
+    front_from printed due input before lo to to' s (wrote s.rest (before ++ s.written) s.source s.sink)
+
+pub lines_on : (printed due : List ℕ → Report) (from taken lo to lo' to' : Option (List ℕ))
+    → Told from taken (λ input before. Stands printed due input before lo to)
+    → Told lo to (λ input before. WroteLines due input before lo' to') → Told from taken (λ input before. WroteLines printed input before lo' to')
+lines_on printed due from taken lo to lo' to' told lines = λ input before source sink.
+    let s = told input before source sink in
+    lines_from printed due input before lo to lo' to' s (lines s.rest (before ++ s.written) s.source s.sink)
