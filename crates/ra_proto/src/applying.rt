@@ -12,14 +12,12 @@ ghost use Rattle.ra_model.specs.Timing.{asked_lately};
 ghost use Rattle.ra_proto.specs.Passed.{passed};
 ghost use Rattle.ra_proto.specs.Refused.{RefusedBy};
 
-use crate::alarms::{asked_lately, heard_where, watched};
 use crate::endpoint::{Endpoint, later};
-use crate::writing::{
-    append_rest, count_acknowledged, first_written, mark_written, remove_entries, waits,
-};
+use crate::writing::{append_rest, waits};
 use ra_base::Moment;
 use ra_frame::FrameFault;
 use ra_model::{EndFault, Frame, Phase, Timing, Up};
+use ra_timer::alarms::{asked_lately, heard_where, watched};
 
 /// The next message.
 fn is_next(id: u64, received: u64) -> bool
@@ -42,8 +40,7 @@ impl Endpoint {
         ensures consistent { IsConsistent self.old }
     {
         let upto = self.acknowledged.max(ack.min(self.sent));
-        let gone = count_acknowledged(&self.queue, upto);
-        remove_entries(&mut self.queue, gone);
+        self.queue.acknowledge(upto);
         self.acknowledged = upto;
         self.timing.latest = later(now, self.timing.latest);
     }
@@ -90,14 +87,14 @@ impl Endpoint {
         ensures err { OnErr result (self.new ≡ self.old) }
     {
         let upto = self.acknowledged.max(frame.ack.min(self.sent));
-        let gone = count_acknowledged(&self.queue, upto);
+        let gone = (upto - self.acknowledged) as usize;
         append_rest(&self.queue, gone, &mut self.unwritten)?;
         self.pass(frame.ack, now);
         let now = self.timing.latest;
-        mark_written(&mut self.queue, now);
+        self.queue.mark_written(now);
         self.timing = watched(
             waits(self.phase.is_up(), self.acknowledged, self.sent),
-            first_written(&self.queue),
+            self.queue.oldest_written(),
             now,
             self.timing,
         );
