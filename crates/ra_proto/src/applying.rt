@@ -52,6 +52,7 @@ impl Endpoint {
         ensures stands { (e : AbstractEndpoint) → StandsFor self.old e → StandsFor self.new (applied (moment now e) frame e) }
         ensures handed { (e : AbstractEndpoint) → StandsFor self.old e → result ≡ delivery_of (frame_kind frame.kind) frame e }
         ensures unread { self.new.unread ≡ self.old.unread }
+        ensures epoch { self.new.epoch ≡ self.old.epoch }
     {
         self.pass(frame.ack, now);
         self.received = frame.id;
@@ -69,6 +70,7 @@ impl Endpoint {
         requires other { frame.now.id ≢ suc self.old.received }
         ensures stands { OnOk result ((e : AbstractEndpoint) → StandsFor self.old e → StandsFor self.new (applied (moment now e) frame.now e)) }
         ensures unread { OnOk result (self.new.unread ≡ self.old.unread) }
+        ensures epoch { OnOk result (self.new.epoch ≡ self.old.epoch) }
         ensures memory { IfErr result (λ fault. fault ≡ EndFault.NoMemory) }
         ensures err { OnErr result (self.new ≡ self.old) }
     {
@@ -83,6 +85,7 @@ impl Endpoint {
         requires kind { frame_kind frame.now.kind ≡ ReplayRequest }
         ensures stands { OnOk result ((e : AbstractEndpoint) → StandsFor self.old e → StandsFor self.new (applied (moment now e) frame.now e)) }
         ensures unread { OnOk result (self.new.unread ≡ self.old.unread) }
+        ensures epoch { OnOk result (self.new.epoch ≡ self.old.epoch) }
         ensures memory { IfErr result (λ fault. fault ≡ EndFault.NoMemory) }
         ensures err { OnErr result (self.new ≡ self.old) }
     {
@@ -106,6 +109,7 @@ impl Endpoint {
         requires kind { frame_kind frame.now.kind ≡ Disconnect }
         ensures stands { (e : AbstractEndpoint) → StandsFor self.old e → StandsFor self.new (applied (moment now e) frame.now e) }
         ensures unread { self.new.unread ≡ [] }
+        ensures epoch { self.new.epoch ≡ self.old.epoch }
     {
         self.pass(frame.ack, now);
         self.phase = Phase::Ended;
@@ -118,6 +122,7 @@ impl Endpoint {
         requires kind { frame_kind frame.now.kind ≡ Pause }
         ensures stands { (e : AbstractEndpoint) → StandsFor self.old e → StandsFor self.new (applied (moment now e) frame.now e) }
         ensures unread { self.new.unread ≡ self.old.unread }
+        ensures epoch { self.new.epoch ≡ self.old.epoch }
     {
         self.pass(frame.ack, now);
         self.paused = true;
@@ -128,6 +133,7 @@ impl Endpoint {
         requires kind { frame_kind frame.now.kind ≡ Resume }
         ensures stands { (e : AbstractEndpoint) → StandsFor self.old e → StandsFor self.new (applied (moment now e) frame.now e) }
         ensures unread { self.new.unread ≡ self.old.unread }
+        ensures epoch { self.new.epoch ≡ self.old.epoch }
     {
         self.pass(frame.ack, now);
         self.paused = false;
@@ -138,6 +144,7 @@ impl Endpoint {
         ensures stands { OnOk result ((e : AbstractEndpoint) → StandsFor self.old e → StandsFor self.new (applied (moment now e) frame e)) }
         ensures handed { IfOk result (λ up. (e : AbstractEndpoint) → StandsFor self.old e → up ≡ delivery_of (frame_kind frame.kind) frame e) }
         ensures unread { OnOk result (self.new.unread ≡ self.old.unread) }
+        ensures epoch { OnOk result (self.new.epoch ≡ self.old.epoch) }
         ensures memory { IfErr result (λ fault. fault ≡ EndFault.NoMemory) }
         ensures err { OnErr result (self.new ≡ self.old) }
     {
@@ -159,6 +166,7 @@ impl Endpoint {
         ensures stands { OnOk result ((e : AbstractEndpoint) → StandsFor self.old e → StandsFor self.new (applied (moment now e) frame e)) }
         ensures handed { IfOk result (λ up. (e : AbstractEndpoint) → StandsFor self.old e → up ≡ delivery_of (frame_kind frame.kind) frame e) }
         ensures unread { OnOk result (self.new.unread ≡ (if frame.kind == 5 then [] else self.old.unread)) }
+        ensures epoch { OnOk result (self.new.epoch ≡ self.old.epoch) }
         ensures memory { IfErr result (λ fault. fault ≡ EndFault.NoMemory) }
         ensures err { OnErr result (self.new ≡ self.old) }
     {
@@ -195,6 +203,7 @@ impl Endpoint {
     pub fn next(&mut self, now: Moment) -> Result<Option<Up>, EndFault>
         ensures stands { OnOk result ((e : AbstractEndpoint) → StandsFor self.old e → StandsFor self.new (take_frame now e)) }
         ensures handed { IfOk result (λ up. (e : AbstractEndpoint) → StandsFor self.old e → up ≡ delivery e) }
+        ensures epoch { OnOk result (self.new.epoch ≡ self.old.epoch) }
         ensures refused { RefusedBy result (take_fault self.old.phase self.old.unread) }
         ensures err { OnErr result (self.new ≡ self.old) }
     {

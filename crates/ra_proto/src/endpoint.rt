@@ -1,6 +1,6 @@
 //! The endpoint: what it keeps, and what it shows.
-ghost use Rattle.std.specs.Prelude.{◌≡◌, ◌≤◌, ◌<◌, ◌^◌, length, max, IfOk};
-ghost use Rattle.ra_model.specs.EndpointStates.{StandsFor};
+ghost use Rattle.std.specs.Prelude.{◌≡◌, ◌≤◌, ◌<◌, ◌^◌, length, drop, max, IfOk};
+ghost use Rattle.ra_model.specs.EndpointStates.{StandsFor, IsConsistent};
 ghost use Rattle.ra_model.specs.Endpoints.{Endpoint as AbstractEndpoint, new_endpoint, shown};
 ghost use Rattle.ra_model.specs.Calls.{wrote};
 ghost use Rattle.ra_proto.specs.Shown.{shown_of, emptied, is_ready};
@@ -104,7 +104,8 @@ impl Endpoint {
     }
 
     pub fn marks(&self) -> Marks
-        ensures { result ≡ record { sent = self.now.sent; received = self.now.received; acknowledged = self.now.acknowledged } }
+        ensures consistent { IsConsistent self.now }
+        ensures marks { result ≡ record { sent = self.now.sent; received = self.now.received; acknowledged = self.now.acknowledged } }
     {
         Marks {
             sent: self.sent,
@@ -115,7 +116,8 @@ impl Endpoint {
 
     /// The messages that the peer has not acknowledged.
     pub fn owed(&self) -> &Unacked
-        ensures { result.now.entries ≡ self.now.queue }
+        ensures entries { result.now.entries ≡ self.now.queue }
+        ensures consistent { IsConsistent self.now }
     {
         &self.queue
     }
@@ -163,7 +165,8 @@ impl Endpoint {
     /// The first n bytes of `out` were put on the link.
     pub fn wrote(&mut self, n: usize)
         requires { n ≤ length (shown_of self.old) }
-        ensures { (e : AbstractEndpoint) → StandsFor self.old e → StandsFor self.new (wrote n e) }
+        ensures state { self.new ≡ record self.old { unwritten = drop n self.old.unwritten } }
+        ensures stands { (e : AbstractEndpoint) → StandsFor self.old e → StandsFor self.new (wrote n e) }
     {
         self.unwritten.advance(n);
     }

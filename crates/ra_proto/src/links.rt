@@ -23,6 +23,7 @@ impl Endpoint {
         ensures linked { OnOk result (is_linked self.new.phase ≡ true) }
         ensures joining { IfOk result (λ joins. joins ≡ is_joining self.new.phase) }
         ensures epoch { OnOk result (self.new.epoch ≡ epoch) }
+        ensures unread { OnOk result (self.new.unread ≡ chunk.now) }
         ensures err { OnErr result (self.new ≡ self.old) }
     {
         if self.phase.is_ended() {
