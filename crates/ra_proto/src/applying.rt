@@ -12,14 +12,12 @@ ghost use Rattle.ra_model.specs.Timing.{asked_lately};
 ghost use Rattle.ra_proto.specs.Passed.{passed};
 ghost use Rattle.ra_proto.specs.Refused.{RefusedBy};
 
-use crate::alarms::{asked_lately, heard_where, watched};
 use crate::endpoint::{Endpoint, later};
-use crate::writing::{
-    append_rest, count_acknowledged, first_written, mark_written, remove_entries, waits,
-};
+use crate::writing::{append_rest, waits};
 use ra_base::Moment;
 use ra_frame::FrameFault;
 use ra_model::{EndFault, Frame, Phase, Timing, Up};
+use ra_timer::alarms::{asked_lately, heard_where, watched};
 
 /// The next message.
 fn is_next(id: u64, received: u64) -> bool
@@ -42,8 +40,7 @@ impl Endpoint {
         ensures consistent { IsConsistent self.old }
     {
         let upto = self.acknowledged.max(ack.min(self.sent));
-        let gone = count_acknowledged(&self.queue, upto);
-        remove_entries(&mut self.queue, gone);
+        self.queue.acknowledge(upto);
         self.acknowledged = upto;
         self.timing.latest = later(now, self.timing.latest);
     }
@@ -55,6 +52,7 @@ impl Endpoint {
         ensures stands { (e : AbstractEndpoint) → StandsFor self.old e → StandsFor self.new (applied (moment now e) frame e) }
         ensures handed { (e : AbstractEndpoint) → StandsFor self.old e → result ≡ delivery_of (frame_kind frame.kind) frame e }
         ensures unread { self.new.unread ≡ self.old.unread }
+        ensures epoch { self.new.epoch ≡ self.old.epoch }
     {
         self.pass(frame.ack, now);
         self.received = frame.id;
@@ -72,6 +70,7 @@ impl Endpoint {
         requires other { frame.now.id ≢ suc self.old.received }
         ensures stands { OnOk result ((e : AbstractEndpoint) → StandsFor self.old e → StandsFor self.new (applied (moment now e) frame.now e)) }
         ensures unread { OnOk result (self.new.unread ≡ self.old.unread) }
+        ensures epoch { OnOk result (self.new.epoch ≡ self.old.epoch) }
         ensures memory { IfErr result (λ fault. fault ≡ EndFault.NoMemory) }
         ensures err { OnErr result (self.new ≡ self.old) }
     {
@@ -86,18 +85,19 @@ impl Endpoint {
         requires kind { frame_kind frame.now.kind ≡ ReplayRequest }
         ensures stands { OnOk result ((e : AbstractEndpoint) → StandsFor self.old e → StandsFor self.new (applied (moment now e) frame.now e)) }
         ensures unread { OnOk result (self.new.unread ≡ self.old.unread) }
+        ensures epoch { OnOk result (self.new.epoch ≡ self.old.epoch) }
         ensures memory { IfErr result (λ fault. fault ≡ EndFault.NoMemory) }
         ensures err { OnErr result (self.new ≡ self.old) }
     {
         let upto = self.acknowledged.max(frame.ack.min(self.sent));
-        let gone = count_acknowledged(&self.queue, upto);
+        let gone = (upto - self.acknowledged) as usize;
         append_rest(&self.queue, gone, &mut self.unwritten)?;
         self.pass(frame.ack, now);
         let now = self.timing.latest;
-        mark_written(&mut self.queue, now);
+        self.queue.mark_written(now);
         self.timing = watched(
             waits(self.phase.is_up(), self.acknowledged, self.sent),
-            first_written(&self.queue),
+            self.queue.oldest_written(),
             now,
             self.timing,
         );
@@ -109,6 +109,7 @@ impl Endpoint {
         requires kind { frame_kind frame.now.kind ≡ Disconnect }
         ensures stands { (e : AbstractEndpoint) → StandsFor self.old e → StandsFor self.new (applied (moment now e) frame.now e) }
         ensures unread { self.new.unread ≡ [] }
+        ensures epoch { self.new.epoch ≡ self.old.epoch }
     {
         self.pass(frame.ack, now);
         self.phase = Phase::Ended;
@@ -121,6 +122,7 @@ impl Endpoint {
         requires kind { frame_kind frame.now.kind ≡ Pause }
         ensures stands { (e : AbstractEndpoint) → StandsFor self.old e → StandsFor self.new (applied (moment now e) frame.now e) }
         ensures unread { self.new.unread ≡ self.old.unread }
+        ensures epoch { self.new.epoch ≡ self.old.epoch }
     {
         self.pass(frame.ack, now);
         self.paused = true;
@@ -131,6 +133,7 @@ impl Endpoint {
         requires kind { frame_kind frame.now.kind ≡ Resume }
         ensures stands { (e : AbstractEndpoint) → StandsFor self.old e → StandsFor self.new (applied (moment now e) frame.now e) }
         ensures unread { self.new.unread ≡ self.old.unread }
+        ensures epoch { self.new.epoch ≡ self.old.epoch }
     {
         self.pass(frame.ack, now);
         self.paused = false;
@@ -141,6 +144,7 @@ impl Endpoint {
         ensures stands { OnOk result ((e : AbstractEndpoint) → StandsFor self.old e → StandsFor self.new (applied (moment now e) frame e)) }
         ensures handed { IfOk result (λ up. (e : AbstractEndpoint) → StandsFor self.old e → up ≡ delivery_of (frame_kind frame.kind) frame e) }
         ensures unread { OnOk result (self.new.unread ≡ self.old.unread) }
+        ensures epoch { OnOk result (self.new.epoch ≡ self.old.epoch) }
         ensures memory { IfErr result (λ fault. fault ≡ EndFault.NoMemory) }
         ensures err { OnErr result (self.new ≡ self.old) }
     {
@@ -162,6 +166,7 @@ impl Endpoint {
         ensures stands { OnOk result ((e : AbstractEndpoint) → StandsFor self.old e → StandsFor self.new (applied (moment now e) frame e)) }
         ensures handed { IfOk result (λ up. (e : AbstractEndpoint) → StandsFor self.old e → up ≡ delivery_of (frame_kind frame.kind) frame e) }
         ensures unread { OnOk result (self.new.unread ≡ (if frame.kind == 5 then [] else self.old.unread)) }
+        ensures epoch { OnOk result (self.new.epoch ≡ self.old.epoch) }
         ensures memory { IfErr result (λ fault. fault ≡ EndFault.NoMemory) }
         ensures err { OnErr result (self.new ≡ self.old) }
     {
@@ -198,6 +203,7 @@ impl Endpoint {
     pub fn next(&mut self, now: Moment) -> Result<Option<Up>, EndFault>
         ensures stands { OnOk result ((e : AbstractEndpoint) → StandsFor self.old e → StandsFor self.new (take_frame now e)) }
         ensures handed { IfOk result (λ up. (e : AbstractEndpoint) → StandsFor self.old e → up ≡ delivery e) }
+        ensures epoch { OnOk result (self.new.epoch ≡ self.old.epoch) }
         ensures refused { RefusedBy result (take_fault self.old.phase self.old.unread) }
         ensures err { OnErr result (self.new ≡ self.old) }
     {

@@ -1,15 +1,16 @@
 //! The endpoint: what it keeps, and what it shows.
-ghost use Rattle.std.specs.Prelude.{◌≡◌, ◌≤◌, ◌<◌, ◌^◌, length, max, if◌then◌else◌};
-ghost use Rattle.ra_model.specs.EndpointStates.{StandsFor};
+ghost use Rattle.std.specs.Prelude.{◌≡◌, ◌≤◌, ◌<◌, ◌^◌, length, drop, max, IfOk};
+ghost use Rattle.ra_model.specs.EndpointStates.{StandsFor, IsConsistent};
 ghost use Rattle.ra_model.specs.Endpoints.{Endpoint as AbstractEndpoint, new_endpoint, shown};
 ghost use Rattle.ra_model.specs.Calls.{wrote};
-ghost use Rattle.ra_proto.specs.Shown.{shown_of, emptied};
+ghost use Rattle.ra_proto.specs.Shown.{shown_of, emptied, is_ready};
 
-use crate::alarms::new_timing;
 use crate::unwritten::Unwritten;
-use ra_base::{Message, Moment};
+use ra_base::{Message, Moment, NoMemory};
 use ra_frame::FrameReader;
-use ra_model::{Entry, Phase, Timing};
+use ra_model::{Phase, Timing};
+use ra_queue::Unacked;
+use ra_timer::alarms::new_timing;
 use std::alloc::Global;
 use std::marker::Model;
 
@@ -30,7 +31,7 @@ pub struct Endpoint {
     pub(crate) phase: Phase,
     pub(crate) epoch: u64,
     pub(crate) sent: u64,
-    pub(crate) queue: Vec<Entry>,
+    pub(crate) queue: Unacked,
     pub(crate) received: u64,
     pub(crate) acknowledged: u64,
     pub(crate) told: u64,
@@ -47,9 +48,9 @@ impl Model for Endpoint {
 
     ghost Value = { EndpointState };
 
-    ghost view = { λ e. record { phase = e.phase; epoch = e.epoch; sent = e.sent; queue = e.queue.items; received = e.received; acknowledged = e.acknowledged; told = e.told; unread = e.unread; unwritten = e.unwritten; paused = e.paused; keeps_alive = e.keeps_alive; timing = e.timing } };
+    ghost view = { λ e. record { phase = e.phase; epoch = e.epoch; sent = e.sent; queue = e.queue.entries; received = e.received; acknowledged = e.acknowledged; told = e.told; unread = e.unread; unwritten = e.unwritten; paused = e.paused; keeps_alive = e.keeps_alive; timing = e.timing } };
 
-    ghost invariant = { λ e. IsConsistent (record { phase = e.phase; epoch = e.epoch; sent = e.sent; queue = e.queue.items; received = e.received; acknowledged = e.acknowledged; told = e.told; unread = e.unread; unwritten = e.unwritten; paused = e.paused; keeps_alive = e.keeps_alive; timing = e.timing }) × (e.timing.latest < 2 ^ 53) × (e.timing.heard < 2 ^ 53) };
+    ghost invariant = { λ e. IsConsistent (record { phase = e.phase; epoch = e.epoch; sent = e.sent; queue = e.queue.entries; received = e.received; acknowledged = e.acknowledged; told = e.told; unread = e.unread; unwritten = e.unwritten; paused = e.paused; keeps_alive = e.keeps_alive; timing = e.timing }) × (e.timing.latest < 2 ^ 53) × (e.timing.heard < 2 ^ 53) };
 }
 
 /// The moment of a call: the moments of one endpoint never fall.
@@ -77,7 +78,7 @@ impl Endpoint {
             phase: Phase::Away,
             epoch: 0,
             sent: base,
-            queue: Vec::new(alloc),
+            queue: Unacked::new(alloc),
             received: base,
             acknowledged: base,
             told: base,
@@ -103,13 +104,52 @@ impl Endpoint {
     }
 
     pub fn marks(&self) -> Marks
-        ensures { result ≡ record { sent = self.now.sent; received = self.now.received; acknowledged = self.now.acknowledged } }
+        ensures consistent { IsConsistent self.now }
+        ensures marks { result ≡ record { sent = self.now.sent; received = self.now.received; acknowledged = self.now.acknowledged } }
     {
         Marks {
             sent: self.sent,
             received: self.received,
             acknowledged: self.acknowledged,
         }
+    }
+
+    /// The messages that the peer has not acknowledged.
+    pub fn owed(&self) -> &Unacked
+        ensures entries { result.now.entries ≡ self.now.queue }
+        ensures consistent { IsConsistent self.now }
+    {
+        &self.queue
+    }
+
+    /// Whether `next` has something to answer: a frame, or a fault.
+    pub fn ready(&self) -> bool
+        ensures { result ≡ is_ready self.now }
+    {
+        self.phase.is_linked() && self.unread.ready()
+    }
+
+    /// An endpoint in the same state.
+    pub fn copy(&self, alloc: Global) -> Result<Endpoint, NoMemory>
+        ensures { IfOk result (λ endpoint. endpoint ≡ self.now) }
+    {
+        let queue = self.queue.copy(alloc)?;
+        let unread = self.unread.copy(alloc)?;
+        let unwritten = self.unwritten.copy(alloc)?;
+        Ok(Endpoint {
+            phase: self.phase,
+            epoch: self.epoch,
+            sent: self.sent,
+            queue,
+            received: self.received,
+            acknowledged: self.acknowledged,
+            told: self.told,
+            unread,
+            unwritten,
+            paused: self.paused,
+            keeps_alive: self.keeps_alive,
+            timing: self.timing,
+        })
     }
 
     /// The bytes that may be put on the link: none while paused.
@@ -125,7 +165,8 @@ impl Endpoint {
     /// The first n bytes of `out` were put on the link.
     pub fn wrote(&mut self, n: usize)
         requires { n ≤ length (shown_of self.old) }
-        ensures { (e : AbstractEndpoint) → StandsFor self.old e → StandsFor self.new (wrote n e) }
+        ensures state { self.new ≡ record self.old { unwritten = drop n self.old.unwritten } }
+        ensures stands { (e : AbstractEndpoint) → StandsFor self.old e → StandsFor self.new (wrote n e) }
     {
         self.unwritten.advance(n);
     }

@@ -6,13 +6,13 @@ ghost use Rattle.ra_model.specs.Refusals.{if_ended, begin_fault, finish_fault, f
 ghost use Rattle.ra_model.specs.Calls.{begin, finish, feed, lose, leave};
 ghost use Rattle.ra_proto.specs.Refused.{RefusedBy};
 
-use crate::alarms::{alarms_cleared, fed, link_begun, link_up, watched};
 use crate::endpoint::{Endpoint, later};
 use crate::unwritten::Unwritten;
-use crate::writing::{append_if, append_rejoin, append_replay, first_written, mark_written, waits};
+use crate::writing::{append_if, append_rejoin, append_replay, waits};
 use ra_base::Moment;
 use ra_frame::FrameReader;
 use ra_model::{EndFault, Phase};
+use ra_timer::alarms::{alarms_cleared, fed, link_begun, link_up, watched};
 
 impl Endpoint {
     /// A link begins, with the bytes that were read of it. The first is up at once, and all that is owed is written on it.
@@ -23,6 +23,7 @@ impl Endpoint {
         ensures linked { OnOk result (is_linked self.new.phase ≡ true) }
         ensures joining { IfOk result (λ joins. joins ≡ is_joining self.new.phase) }
         ensures epoch { OnOk result (self.new.epoch ≡ epoch) }
+        ensures unread { OnOk result (self.new.unread ≡ chunk.now) }
         ensures err { OnErr result (self.new ≡ self.old) }
     {
         if self.phase.is_ended() {
@@ -53,12 +54,12 @@ impl Endpoint {
         self.epoch = epoch;
         self.paused = false;
         self.timing = link_begun(now, self.timing);
-        mark_written(&mut self.queue, now);
+        self.queue.mark_written(now);
         self.phase = Phase::Up;
         self.timing = link_up(self.keeps_alive, now, self.timing);
         self.timing = watched(
             waits(true, self.acknowledged, self.sent),
-            first_written(&self.queue),
+            self.queue.oldest_written(),
             now,
             self.timing,
         );
@@ -83,12 +84,12 @@ impl Endpoint {
         let now = later(now, self.timing.latest);
         self.told = self.received;
         self.timing.latest = now;
-        mark_written(&mut self.queue, now);
+        self.queue.mark_written(now);
         self.phase = Phase::Up;
         self.timing = link_up(self.keeps_alive, now, self.timing);
         self.timing = watched(
             waits(true, self.acknowledged, self.sent),
-            first_written(&self.queue),
+            self.queue.oldest_written(),
             now,
             self.timing,
         );

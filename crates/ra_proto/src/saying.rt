@@ -7,11 +7,11 @@ ghost use Rattle.ra_model.specs.Refusals.{say_fault, control_fault, ask_fault};
 ghost use Rattle.ra_model.specs.Calls.{say, control, ask_pause, ask_resume};
 ghost use Rattle.ra_proto.specs.Links.{SameLink};
 
-use crate::alarms::watched;
 use crate::endpoint::{Endpoint, later};
-use crate::writing::{enqueue, first_written, waits, written_at};
+use crate::writing::{enqueue, waits, written_at};
 use ra_base::{Message, Moment};
 use ra_model::{EndFault, Entry};
+use ra_timer::alarms::watched;
 
 /// The most bytes of a body.
 const BODY_LIMIT: usize = 268_435_456;
@@ -71,7 +71,7 @@ impl Endpoint {
         self.timing.latest = now;
         self.timing = watched(
             waits(is_up, self.acknowledged, id),
-            first_written(&self.queue),
+            self.queue.oldest_written(),
             now,
             self.timing,
         );

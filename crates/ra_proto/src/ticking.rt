@@ -5,11 +5,13 @@ ghost use Rattle.ra_model.specs.Endpoints.{Endpoint as AbstractEndpoint};
 ghost use Rattle.ra_model.specs.Calls.{tick, times_out};
 ghost use Rattle.ra_proto.specs.Links.{SameLink};
 
-use crate::alarms::{acknowledge_served, acks, fires, is_due, keep_alive_served, timeout_served};
 use crate::endpoint::{Endpoint, later};
-use crate::writing::{append_tick, first_written, told_after, waits};
+use crate::writing::{append_tick, told_after, waits};
 use ra_base::Moment;
 use ra_model::EndFault;
+use ra_timer::alarms::{
+    acknowledge_served, acks, fires, is_due, keep_alive_served, timeout_served,
+};
 
 /// What a tick answers.
 #[derive(Clone, Copy, Debug, PartialEq, Eq)]
@@ -34,7 +36,7 @@ impl Endpoint {
         let now = later(now, self.timing.latest);
         let owes = self.told < self.received;
         let is_waiting = waits(is_up, self.acknowledged, self.sent);
-        let oldest = first_written(&self.queue);
+        let oldest = self.queue.oldest_written();
         let writes_ack = acks(owes, now, self.timing);
         let writes_keep_alive = is_due(self.timing.keep_alive, now);
         append_tick(

@@ -1,5 +1,5 @@
 //! The bytes of frames that are not on the link. A front of them is gone without a move of the rest.
-ghost use Rattle.std.specs.Prelude.{◌≡◌, ◌≤◌, ◌<◌, ◌++◌, ◌∷◌, [], length, drop, take, OnOk, OnErr};
+ghost use Rattle.std.specs.Prelude.{◌≡◌, ◌≤◌, ◌<◌, ◌++◌, ◌∷◌, [], length, drop, take, OnOk, OnErr, IfOk};
 ghost use Rattle.ra_model.specs.Frames.{body_limit, joined};
 ghost use Rattle.ra_model.specs.FrameKinds.{written_frame};
 
@@ -38,6 +38,13 @@ impl Unwritten {
 
     pub fn allocator(&self) -> Global {
         *self.bytes.allocator()
+    }
+
+    pub fn copy(&self, alloc: Global) -> Result<Unwritten, NoMemory>
+        ensures { IfOk result (λ bytes. bytes ≡ self.now) }
+    {
+        let bytes = Vec::from_slice(alloc, self.as_slice())?;
+        Ok(Unwritten { bytes, start: 0 })
     }
 
     pub fn as_slice(&self) -> &[u8]

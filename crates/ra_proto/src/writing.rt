@@ -1,25 +1,15 @@
 //! What an endpoint writes: frames of its queue, acks and keep-alives, each whole or not at all.
-ghost use Rattle.std.specs.Prelude.{◌≡◌, ◌<◌, ◌≤◌, ◌++◌, ◌∷◌, [], ◌&&◌, length, take, drop, map, All, cond, nat_lt, Some, None, OnOk, OnErr, IfErr};
-ghost use Rattle.ra_model.specs.Frames.{body_limit, joined, frame_bytes};
+ghost use Rattle.std.specs.Prelude.{◌≡◌, ◌<◌, ◌≤◌, ◌++◌, ◌∷◌, [], ◌&&◌, length, drop, map, All, cond, nat_lt, Some, None, OnOk, OnErr, IfErr};
+ghost use Rattle.ra_model.specs.Frames.{body_limit, joined};
 ghost use Rattle.ra_model.specs.FrameKinds.{written_frame, regular, ack_frame, keep_alive_frame};
-ghost use Rattle.ra_model.specs.Endpoints.{first_written, entry_frame};
-ghost use Rattle.ra_model.specs.EndpointStates.{behind, entry_written};
+ghost use Rattle.ra_model.specs.Endpoints.{entry_frame};
 ghost use Rattle.ra_model.specs.Calls.{when};
 
 use crate::saying::SayFault;
 use crate::unwritten::Unwritten;
 use ra_base::NoMemory;
 use ra_model::{EndFault, Entry};
-
-/// When the front of the queue was last written.
-pub fn first_written(queue: &[Entry]) -> Option<u64>
-    ensures { result ≡ first_written queue.now }
-{
-    match queue {
-        [entry, ..] => entry.written,
-        [] => None,
-    }
-}
+use ra_queue::Unacked;
 
 /// A message waits for its acknowledgement on a link.
 pub fn waits(is_up: bool, acknowledged: u64, sent: u64) -> bool
@@ -55,17 +45,17 @@ fn append_when(
 
 /// Puts a message into the queue, and writes it where the link is up. At want of memory nothing changes, and its body comes back.
 pub fn enqueue(
-    queue: &mut Vec<Entry>,
+    queue: &mut Unacked,
     unwritten: &mut Unwritten,
     is_up: bool,
     entry: Entry,
 ) -> Result<(), SayFault>
     requires { length entry.body ≤ body_limit }
-    ensures queue { OnOk result (queue.new.items ≡ queue.old.items ++ entry ∷ []) }
+    ensures queue { OnOk result (queue.new.entries ≡ queue.old.entries ++ entry ∷ []) }
     ensures unwritten { OnOk result (unwritten.new ≡ unwritten.old ++ joined (when is_up (regular entry.id entry.ack entry.body))) }
     ensures memory { IfErr result (λ refused. refused.fault ≡ EndFault.NoMemory) }
     ensures body { IfErr result (λ refused. refused.body ≡ entry.body) }
-    ensures err { OnErr result ((queue.new.items ≡ queue.old.items) × (unwritten.new ≡ unwritten.old)) }
+    ensures err { OnErr result ((queue.new.entries ≡ queue.old.entries) × (unwritten.new ≡ unwritten.old)) }
 {
     if queue.reserve(1).is_err() {
         return Err(no_memory(entry));
@@ -73,7 +63,7 @@ pub fn enqueue(
     if append_when(unwritten, is_up, entry.id, entry.ack, entry.body.as_slice()).is_err() {
         return Err(no_memory(entry));
     }
-    queue.push(entry).unwrap();
+    queue.push(entry);
     Ok(())
 }
 
@@ -88,42 +78,14 @@ fn no_memory(entry: Entry) -> SayFault
     }
 }
 
-/// How many messages at the front of the queue are acknowledged.
-pub fn count_acknowledged(queue: &[Entry], upto: u64) -> usize
-    ensures front { drop result queue.now ≡ behind upto queue.now }
-    ensures bound { result ≤ length queue.now }
-{
-    for i in 0..queue.len() {
-        if queue[i].id > upto {
-            return i;
-        }
-    }
-    queue.len()
-}
-
-/// All in the queue was written again now.
-pub fn mark_written(queue: &mut Vec<Entry>, now: u64)
-    ensures { queue.new.items ≡ map (entry_written now) queue.old.items }
-{
-    mark_each(queue, now);
-}
-
-fn mark_each(queue: &mut [Entry], now: u64)
-    ensures { queue.new ≡ map (entry_written now) queue.old }
-{
-    for entry in queue.iter_mut() {
-        entry.written = Some(now);
-    }
-}
-
-/// Adds the bytes of all in the queue, or nothing.
-pub fn append_replay(queue: &[Entry], out: &mut Unwritten) -> Result<(), NoMemory>
-    requires { All (λ entry. length entry.body ≤ body_limit) queue.now }
-    ensures ok { OnOk result (out.new ≡ out.old ++ joined (map entry_frame queue.now)) }
+/// Adds the bytes of messages, or nothing.
+fn append_entries(entries: &[Entry], out: &mut Unwritten) -> Result<(), NoMemory>
+    requires { All (λ entry. length entry.body ≤ body_limit) entries.now }
+    ensures ok { OnOk result (out.new ≡ out.old ++ joined (map entry_frame entries.now)) }
     ensures err { OnErr result (out.new ≡ out.old) }
 {
     let before = out.len();
-    for entry in queue {
+    for entry in entries {
         if out
             .append(1, entry.id, entry.ack, entry.body.as_slice())
             .is_err()
@@ -133,6 +95,31 @@ pub fn append_replay(queue: &[Entry], out: &mut Unwritten) -> Result<(), NoMemor
         }
     }
     Ok(())
+}
+
+/// Adds the bytes of messages in two parts, or nothing.
+fn append_parts(first: &[Entry], second: &[Entry], out: &mut Unwritten) -> Result<(), NoMemory>
+    requires { All (λ entry. length entry.body ≤ body_limit) (first.now ++ second.now) }
+    ensures ok { OnOk result (out.new ≡ out.old ++ joined (map entry_frame (first.now ++ second.now))) }
+    ensures err { OnErr result (out.new ≡ out.old) }
+{
+    let before = out.len();
+    append_entries(first, out)?;
+    if append_entries(second, out).is_err() {
+        out.truncate(before);
+        return Err(NoMemory);
+    }
+    Ok(())
+}
+
+/// Adds the bytes of all in the queue, or nothing.
+pub fn append_replay(queue: &Unacked, out: &mut Unwritten) -> Result<(), NoMemory>
+    requires { All (λ entry. length entry.body ≤ body_limit) queue.now.entries }
+    ensures ok { OnOk result (out.new ≡ out.old ++ joined (map entry_frame queue.now.entries)) }
+    ensures err { OnErr result (out.new ≡ out.old) }
+{
+    let (first, second) = queue.as_slices();
+    append_parts(first, second, out)
 }
 
 /// Adds a frame that has only a type, or nothing.
@@ -148,9 +135,9 @@ pub fn append_if(out: &mut Unwritten, is_written: bool, kind: u8) -> Result<(), 
 }
 
 /// Adds an Ack, and the bytes of all in the queue; or nothing.
-pub fn append_rejoin(queue: &[Entry], received: u64, out: &mut Unwritten) -> Result<(), NoMemory>
-    requires { All (λ entry. length entry.body ≤ body_limit) queue.now }
-    ensures ok { OnOk result (out.new ≡ (out.old ++ joined (ack_frame received ∷ [])) ++ joined (map entry_frame queue.now)) }
+pub fn append_rejoin(queue: &Unacked, received: u64, out: &mut Unwritten) -> Result<(), NoMemory>
+    requires { All (λ entry. length entry.body ≤ body_limit) queue.now.entries }
+    ensures ok { OnOk result (out.new ≡ (out.old ++ joined (ack_frame received ∷ [])) ++ joined (map entry_frame queue.now.entries)) }
     ensures err { OnErr result (out.new ≡ out.old) }
 {
     let before = out.len();
@@ -201,20 +188,13 @@ pub fn told_after(writes_ack: bool, writes_keep_alive: bool, received: u64, told
     }
 }
 
-/// The first n messages are gone.
-pub fn remove_entries(queue: &mut Vec<Entry>, n: usize)
-    requires { n ≤ length queue.old.items }
-    ensures { queue.new.items ≡ drop n queue.old.items }
-{
-    queue.drain(..n);
-}
-
 /// Adds the bytes of all in the queue behind the first n, or nothing.
-pub fn append_rest(queue: &[Entry], n: usize, out: &mut Unwritten) -> Result<(), NoMemory>
-    requires n { n ≤ length queue.now }
-    requires fits { All (λ entry. length entry.body ≤ body_limit) queue.now }
-    ensures ok { OnOk result (out.new ≡ out.old ++ joined (map entry_frame (drop n queue.now))) }
+pub fn append_rest(queue: &Unacked, n: usize, out: &mut Unwritten) -> Result<(), NoMemory>
+    requires n { n ≤ length queue.now.entries }
+    requires fits { All (λ entry. length entry.body ≤ body_limit) queue.now.entries }
+    ensures ok { OnOk result (out.new ≡ out.old ++ joined (map entry_frame (drop n queue.now.entries))) }
     ensures err { OnErr result (out.new ≡ out.old) }
 {
-    append_replay(&queue[n..], out)
+    let (first, second) = queue.slices_from(n);
+    append_parts(first, second, out)
 }

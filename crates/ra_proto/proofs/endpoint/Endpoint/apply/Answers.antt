@@ -1,4 +1,4 @@
-use Rattle.std.proofs.Common.{ap}
+use Rattle.std.proofs.Common.{ap, arith}
 use Rattle.ra_model.specs.FrameKinds.{frame_kind}
 use Rattle.ra_model.specs.FrameKinds.FrameKind.{Control, Disconnect, ReplayRequest, Pause, Resume, Other}
 use Rattle.ra_model.proofs.StandsTaking.{other_kind}
@@ -26,11 +26,9 @@ returns-in-8-clause-handed c = handed_kind Resume c.args.frame c.args.self.now (
 
 pub returns-in_default-clause-stands : goal.returns-in_default-clause-stands
 returns-in_default-clause-stands c =
-    let r = c.in_default.in_default-own.rest in
     rw (c.pass-in_default.ensures.passed)
-    (applied_kind Other c.args.frame c.args.now c.args.self.now (other_kind c.args.frame.kind r.0.0.0.0.0.1 r.0.0.0.0.1 r.0.0.0.1 r.0.0.1 r.0.1 r.1) c.pass-in_default.ensures.consistent)
+    (applied_kind Other c.args.frame c.args.now c.args.self.now (other_kind c.args.frame.kind (omega arith) (omega arith) (omega arith) (omega arith) (omega arith) (omega arith)) c.pass-in_default.ensures.consistent)
 
 pub returns-in_default-clause-handed : goal.returns-in_default-clause-handed
 returns-in_default-clause-handed c =
-    let r = c.in_default.in_default-own.rest in
-    handed_kind Other c.args.frame c.args.self.now (other_kind c.args.frame.kind r.0.0.0.0.0.1 r.0.0.0.0.1 r.0.0.0.1 r.0.0.1 r.0.1 r.1)
+    handed_kind Other c.args.frame c.args.self.now (other_kind c.args.frame.kind (omega arith) (omega arith) (omega arith) (omega arith) (omega arith) (omega arith))

@@ -20,3 +20,6 @@ returns-clause-stands c =
 
 pub returns-clause-unread : goal.returns-clause-unread
 returns-clause-unread c = ap (λ (x : EndpointState). x.unread) (c.self-2.view_is ∙ c.pass.ensures.passed) ∙ ap (λ (x : EndpointState). x.unread) c.self.view_is
+
+pub returns-clause-epoch : goal.returns-clause-epoch
+returns-clause-epoch c = ap (λ (x : EndpointState). x.epoch) (c.self-2.view_is ∙ c.pass.ensures.passed) ∙ ap (λ (x : EndpointState). x.epoch) c.self.view_is

@@ -28,3 +28,6 @@ returns-clause-handed c = handed_message c.args.frame c.args.self.now c.requires
 
 pub returns-clause-unread : goal.returns-clause-unread
 returns-clause-unread c = ap (λ (x : EndpointState). x.unread) (c.self.view_is ∙ c.pass.ensures.passed)
+
+pub returns-clause-epoch : goal.returns-clause-epoch
+returns-clause-epoch c = ap (λ (x : EndpointState). x.epoch) (c.self.view_is ∙ c.pass.ensures.passed)

@@ -28,5 +28,5 @@ pub returns-clause-stands : goal.returns-clause-stands
 returns-clause-stands c =
     let newer : c.self.inside.epoch < c.args.epoch = omega (arith, c.if-epoch-self.false) in
     let first : c.self.inside.epoch ≡ 0 = omega (arith, c.if-self-gt0.false) in
-    rw (c.watched-self-inside.ensures, c.waits.ensures, c.first_written.ensures, c.deref-2.ensures.value, c.link_up-self-inside.ensures, c.link_begun-self-inside-2.ensures, c.mark_written.ensures, c.in_ok-append_replay.ensures.ok, c.new-unwritten.ensures, c.deref.ensures.value, c.in_ok-feed.ensures.ok, c.new-unread.ensures, c.later-now.ensures.value, ← c.self.view_is)
+    rw (c.watched-self-inside.ensures, c.waits.ensures, c.oldest_written.ensures, c.link_up-self-inside.ensures, c.link_begun-self-inside-2.ensures, c.mark_written.ensures, c.in_ok-append_replay.ensures.ok, c.new-unwritten.ensures, c.in_ok-feed.ensures.ok, c.new-unread.ensures, c.later-now.ensures.value, ← c.self.view_is)
     (begin_first_stands c.args.epoch c.args.chunk.now c.args.now _ (and_from _ _ (ap not (sym c.if-is_ended.ensures)) (lt-ltb c.self.inside.epoch c.args.epoch newer)) (eq-eqb c.self.inside.epoch 0 first))

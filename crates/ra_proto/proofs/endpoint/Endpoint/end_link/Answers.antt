@@ -12,5 +12,5 @@ invariant_of-self-2 c =
 
 pub returns-clause-stands : goal.returns-clause-stands
 returns-clause-stands c =
-    rw (c.watched-self-inside.ensures, c.waits.ensures, c.first_written.ensures, c.deref-2.ensures.value, c.link_up-self-inside.ensures, c.mark_written.ensures, c.in_ok-append_rejoin.ensures.ok, c.deref.ensures.value, c.later-now.ensures.value, ← c.self.view_is)
+    rw (c.watched-self-inside.ensures, c.waits.ensures, c.oldest_written.ensures, c.link_up-self-inside.ensures, c.mark_written.ensures, c.in_ok-append_rejoin.ensures.ok, c.later-now.ensures.value, ← c.self.view_is)
     (finish_stands c.args.now _ (sym c.if-not-is_joining.ensures))

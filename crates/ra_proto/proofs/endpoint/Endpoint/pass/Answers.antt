@@ -1,5 +1,4 @@
-use Rattle.std.proofs.Common.{◌≡◌, drop, false, []}
-use Rattle.ra_model.specs.EndpointStates.{behind}
+use Rattle.std.proofs.Common.{false, []}
 use Rattle.ra_model.specs.declared.frame.Frame.{Frame}
 use Rattle.ra_model.proofs.Consistent.{passed_consistent}
 use Rattle.ra_proto.proofs.endpoint.Endpoint.pass.Goals as goal
@@ -8,5 +7,4 @@ pub invariant_of-self : goal.invariant_of-self
 invariant_of-self c =
     let frame : Frame = record { kind = 3; wide = false; id = 0; ack = c.args.ack; body = [] } in
     let k = passed_consistent frame c.self.inside.unread c.later-self-inside.result _ c.self.invariant.0 in
-    let front : drop c.count_acknowledged-gone.result c.self.inside.queue.items ≡ behind c.max-upto.result c.self.inside.queue.items = rw (c.deref.ensures.value) at c.count_acknowledged-gone.ensures.front in
-    (rw (c.remove_entries.ensures, front, c.max-upto.ensures, c.min.ensures) (record { all = k.all; id = k.id; fits = k.fits; told = k.told }), c.later-self-inside.ensures.bound, c.self.invariant.2)
+    (rw (c.acknowledge.ensures.rest, c.max-upto.ensures, c.min.ensures) (record { all = k.all; id = k.id; fits = k.fits; told = k.told }), c.later-self-inside.ensures.bound, c.self.invariant.2)

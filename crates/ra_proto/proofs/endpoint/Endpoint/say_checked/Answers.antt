@@ -13,5 +13,5 @@ pub returns-clause-stands : goal.returns-clause-stands
 returns-clause-stands c =
     let going = rw (← c.self.view_is) at c.requires.going in
     let room = rw (← c.self.view_is) at c.requires.ids in
-    rw (c.watched-self-inside.ensures, c.waits.ensures, c.first_written.ensures, c.deref.ensures.value, c.in_ok-enqueue.ensures.queue, c.in_ok-enqueue.ensures.unwritten, c.written_at.ensures, c.is_up-is_up.ensures, c.later-now.ensures.value, ← c.self.view_is)
+    rw (c.watched-self-inside.ensures, c.waits.ensures, c.oldest_written.ensures, c.in_ok-enqueue.ensures.queue, c.in_ok-enqueue.ensures.unwritten, c.written_at.ensures, c.is_up-is_up.ensures, c.later-now.ensures.value, ← c.self.view_is)
     (say_stands c.args.body c.args.now _ c.self.invariant.0 going c.requires.limit room)

@@ -16,10 +16,10 @@ returns-then-not-is_up-clause-timeout c = rw (← c.self.view_is) (λ e h. sym (
 
 pub returns-clause-stands : goal.returns-clause-stands
 returns-clause-stands c =
-    rw (c.keep_alive_served-self-inside.ensures.timing, c.timeout_served-self-inside.ensures.timing, c.acknowledge_served-self-inside.ensures.timing, c.waits-is_waiting.ensures, c.first_written-oldest.ensures, c.deref.ensures.value, c.told_after-self-inside.ensures, c.in_ok-append_tick.ensures.ok, c.acks-writes_ack.ensures, c.is_due-writes_keep_alive.ensures, c.is_up-is_up.ensures, c.later-now.ensures.value, ← c.self.view_is)
+    rw (c.keep_alive_served-self-inside.ensures.timing, c.timeout_served-self-inside.ensures.timing, c.acknowledge_served-self-inside.ensures.timing, c.waits-is_waiting.ensures, c.oldest_written-oldest.ensures, c.told_after-self-inside.ensures, c.in_ok-append_tick.ensures.ok, c.acks-writes_ack.ensures, c.is_due-writes_keep_alive.ensures, c.is_up-is_up.ensures, c.later-now.ensures.value, ← c.self.view_is)
     (tick_stands c.args.now _ (sym c.is_up-is_up.ensures ∙ c.if-not-is_up.false))
 
 pub returns-clause-timeout : goal.returns-clause-timeout
 returns-clause-timeout c =
-    rw (c.fires-is_timeout.ensures, c.waits-is_waiting.ensures, c.first_written-oldest.ensures, c.deref.ensures.value, c.is_up-is_up.ensures, c.later-now.ensures.value, ← c.self.view_is)
+    rw (c.fires-is_timeout.ensures, c.waits-is_waiting.ensures, c.oldest_written-oldest.ensures, c.is_up-is_up.ensures, c.later-now.ensures.value, ← c.self.view_is)
     (λ e h. sym (times_out_is c.args.now _ e h ∙ where_true _ _ (sym c.is_up-is_up.ensures ∙ c.if-not-is_up.false)))

@@ -1,4 +1,4 @@
-//! The alarms of an endpoint, through its calls.
+//! What the calls of an endpoint change of its alarms and of the moments that it remembers.
 ghost use Rattle.std.specs.Prelude.{cond, ◌≡◌, ◌<◌, ◌^◌, ◌&&◌, nat_lt};
 ghost use Rattle.ra_model.specs.Calls.{fed_after};
 ghost use Rattle.ra_model.specs.Timing.{silent_for, watched, message_heard, asked_lately, link_begun, link_up, alarms_cleared, new_timing, is_due, fires, timeout_served, acks, acknowledge_served, keep_alive_served};
