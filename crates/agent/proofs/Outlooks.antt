@@ -219,5 +219,5 @@ pub look_fault : {E : Type 0} (p q r : Progress) (fault : FrameFault) (before af
 look_fault p q r fault before after place result same too_long at =
     IfOk-weaker result (λ taken. (taken ≡ RefusedNow) × ((n : ℕ) × (fault ≡ TooLong n) × (after ≡ before ++ too_long_line n place))) (λ taken. Looks taken q before r after)
     (λ taken h.
-        let long = too_long h.1.0 h.1.1 in
-        subst (λ (x : Taken). Looks x q before r after) (sym h.0) (look_too_long p q h.1.0 before after place same long.too_long long.stated at h.1.2))
+    let long = too_long h.1.0 h.1.1 in
+    subst (λ (x : Taken). Looks x q before r after) (sym h.0) (look_too_long p q h.1.0 before after place same long.too_long long.stated at h.1.2))

@@ -74,7 +74,7 @@ counted : (heard rest k : ℕ) (left : List ℕ) → after_end heard (rest + len
 counted heard rest k left =
     elim (cases_lt k (length left)) [
       | inl lt ↦ let test : nat_lt k (length left) ≡ true = search (rules, lt) in
-        ap (λ (b : Bool). after_end heard (rest + length (take k left)) b) test ∙ sym (ap (λ (b : Bool). after_end heard (rest + length left) b) test)
+          ap (λ (b : Bool). after_end heard (rest + length (take k left)) b) test ∙ sym (ap (λ (b : Bool). after_end heard (rest + length left) b) test)
       | inr le ↦ ap (λ (t : List ℕ). after_end heard (rest + length t) (nat_lt k (length left))) (take_all k left le)
     ]
 

@@ -8,11 +8,13 @@ mod plain;
 mod receive;
 mod receiver;
 mod report;
+#[cfg(test)]
+mod tests;
 
 use plain::run_plain;
 use ra_ports::{StdSink, StdSource};
 use std::process::ExitCode;
-use std::{env, io};
+use std::env;
 
 /// The words of the command line, without the program's name; none where they are no text.
 fn words(rt: &(impl env::Env + AllocGlobal)) -> Vec<String> {

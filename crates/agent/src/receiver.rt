@@ -7,7 +7,9 @@ ghost use Rattle.agent.specs.Lines.{too_long_line, end_line};
 ghost use Rattle.agent.specs.Receive.{first_link, after_frame, flushed, delivery_line, ready_line, lines_of, input_limit};
 ghost use Rattle.agent.specs.Progress.{endpoint_of, IsListening, IsReady, fed_with, Looks, Drains, Turns};
 
-use crate::lines::{push_control, push_end, push_ended, push_over, push_too_long, push_up, push_write};
+use crate::lines::{
+    push_control, push_end, push_ended, push_over, push_too_long, push_up, push_write,
+};
 use ra_base::{Moment, NoMemory};
 use ra_frame::{Frame, FrameFault, FrameReader};
 use ra_proto::{Endpoint, Up};
@@ -78,7 +80,12 @@ fn push_shown(alloc: Global, end: &mut Endpoint, text: &mut Vec<u8>) -> Result<(
 }
 
 /// Applies a frame, and adds the line of what it hands up.
-fn apply(alloc: Global, end: &mut Endpoint, frame: Frame, text: &mut Vec<u8>) -> Result<(), NoMemory>
+fn apply(
+    alloc: Global,
+    end: &mut Endpoint,
+    frame: Frame,
+    text: &mut Vec<u8>,
+) -> Result<(), NoMemory>
     requires { IsListening end.old }
     ensures end { OnOk result (endpoint_of end.new ≡ after_frame frame (endpoint_of end.old)) }
     ensures said { OnOk result ((end.new.sent ≡ 0) × (end.new.queue ≡ [])) }
@@ -91,7 +98,12 @@ fn apply(alloc: Global, end: &mut Endpoint, frame: Frame, text: &mut Vec<u8>) ->
 }
 
 /// Applies a frame, and adds its lines. It answers whether the peer has left.
-fn hear(alloc: Global, end: &mut Endpoint, frame: Frame, text: &mut Vec<u8>) -> Result<bool, NoMemory>
+fn hear(
+    alloc: Global,
+    end: &mut Endpoint,
+    frame: Frame,
+    text: &mut Vec<u8>,
+) -> Result<bool, NoMemory>
     requires { IsListening end.old }
     ensures open { result ≡ Ok false → endpoint_of end.new ≡ flushed (after_frame frame (endpoint_of end.old)) }
     ensures listening { result ≡ Ok false → IsListening end.new }

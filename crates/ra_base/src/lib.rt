@@ -7,6 +7,8 @@ pub mod event;
 pub mod memory;
 pub mod message;
 pub mod moment;
+#[cfg(test)]
+mod tests;
 
 pub use event::{Count, Event, Side};
 pub use memory::NoMemory;
