@@ -1,3 +1,5 @@
+ghost use Rattle.std.specs.Prelude.{◌<◌};
+
 use crate::plain::run_plain;
 use ra_base::Message;
 use ra_ports::{MemSink, MemSource};
