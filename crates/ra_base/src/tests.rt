@@ -1,4 +1,4 @@
-use crate::{Message, Moment};
+use crate::{Key, Kind, Message, Moment, Reason, Token, TokenFault};
 use std::test::Fail;
 
 #[test]
@@ -18,4 +18,33 @@ fn a_moment_is_below_its_limit(rt: HostRuntime) {
     let last = Moment::of_millis((1 << 53) - 1);
     assert!(rt; last.is_some_and(|moment| moment.millis() == (1 << 53) - 1));
     assert_eq!(rt; Moment::start().millis(), 0);
+}
+
+#[test]
+fn a_token_is_visible_text(rt: HostRuntime) -> Result<(), Fail> {
+    assert!(rt; matches!(Token::from_text(""), Err(TokenFault::Empty)));
+    let long = vec![in rt.alloc(); b'a'; 257]?;
+    let long = str::from_utf8(long.as_slice())?;
+    assert!(rt;
+        matches!(
+            Token::from_text(long),
+            Err(TokenFault::TooLong { len: 257 })
+        )
+    );
+    assert!(rt; matches!(Token::from_text("a b"), Err(TokenFault::BadByte { at: 1 })));
+    let token = Token::from_text("t1")?;
+    assert_eq!(rt; token.as_text(), "t1");
+    let key = Key {
+        kind: Kind::Management,
+        token: token.same(),
+    };
+    assert!(rt; key.same() == key);
+    assert!(rt;
+        key < Key {
+            kind: Kind::ExtensionHost,
+            token
+        }
+    );
+    assert_eq!(rt; Reason::Duplicate.text(), "Duplicate reconnection token");
+    Ok(())
 }
