@@ -10,7 +10,7 @@ use std::alloc::Global;
 pub const USAGE: &[u8; 64] = b"usage: agent receive|replay|grand|soak START STEPS|serve|attach\n";
 
 /// Adds bytes as lower-case hexadecimal digits, and none as a dash.
-fn push_hex(alloc: Global, text: &mut Vec<u8>, bytes: &[u8]) -> Result<(), NoMemory>
+pub fn push_hex(alloc: Global, text: &mut Vec<u8>, bytes: &[u8]) -> Result<(), NoMemory>
     ensures { OnOk result (text.new.items ≡ text.old.items ++ hex_of bytes.now) }
 {
     if bytes.is_empty() {
@@ -22,7 +22,7 @@ fn push_hex(alloc: Global, text: &mut Vec<u8>, bytes: &[u8]) -> Result<(), NoMem
     Ok(())
 }
 
-fn push_decimal(text: &mut Vec<u8>, n: u64) -> Result<(), NoMemory>
+pub fn push_decimal(text: &mut Vec<u8>, n: u64) -> Result<(), NoMemory>
     ensures { OnOk result (text.new.items ≡ text.old.items ++ decimal n) }
 {
     let mut buffer = Buffer::new();

@@ -7,6 +7,7 @@ mod lines;
 mod plain;
 mod receive;
 mod receiver;
+mod replay_lines;
 mod report;
 #[cfg(test)]
 mod tests;
