@@ -17,7 +17,7 @@ use ra_timer::alarms::watched;
 const BODY_LIMIT: usize = 268_435_456;
 
 /// A say that was refused.
-#[derive(Drop)]
+#[derive(Debug, Drop)]
 pub struct SayFault {
     pub body: Message,
     pub fault: EndFault,
