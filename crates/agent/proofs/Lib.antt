@@ -5,3 +5,4 @@ pub mod PieceLemmas
 pub mod Runs
 pub mod Receiving
 pub mod ProgramLemmas
+pub mod WholeLemmas

@@ -5,6 +5,7 @@
 
 mod lines;
 mod plain;
+mod read_whole;
 mod receive;
 mod receiver;
 mod replay_lines;
