@@ -59,21 +59,21 @@ unfolding step_behind
 link_behind v s =
     let link : Course → ℕ = λ t. t.link in
     bounded link (s.link + 1) (ltb v 5) _ _ (omega arith) (bounded link (s.link + 1) (ltb v 9) _ _ (omega arith)
-        (bounded link (s.link + 1) (ltb v 10) _ _ (omega arith) (bounded link (s.link + 1) (ltb v 11) _ _ (omega arith) (omega arith))))
+    (bounded link (s.link + 1) (ltb v 10) _ _ (omega arith) (bounded link (s.link + 1) (ltb v 11) _ _ (omega arith) (omega arith))))
 
 pub moment_behind : (v : ℕ) (s : Course) → (step_behind v s).moment ≤ s.moment + 4000
 unfolding step_behind
 moment_behind v s =
     let moment : Course → ℕ = λ t. t.moment in
     bounded moment (s.moment + 4000) (ltb v 5) _ _ (omega arith) (bounded moment (s.moment + 4000) (ltb v 9) _ _ (omega arith)
-        (bounded moment (s.moment + 4000) (ltb v 10) _ _ (omega arith) (bounded moment (s.moment + 4000) (ltb v 11) _ _ (omega arith) (omega arith))))
+    (bounded moment (s.moment + 4000) (ltb v 10) _ _ (omega arith) (bounded moment (s.moment + 4000) (ltb v 11) _ _ (omega arith) (omega arith))))
 
 pub length-step_lines : (v : ℕ) (s : Course) → length (step_lines v s) ≤ 11
 unfolding step_lines
 length-step_lines v s =
     let len : List Line → ℕ = λ lines. length lines in
     bounded len 11 (ltb v 3) _ _ (lit≤ tt) (bounded len 11 (ltb v 5) _ _ (lit≤ tt) (bounded len 11 (ltb v 7) _ _ (lit≤ tt)
-        (bounded len 11 (ltb v 9) _ _ (lit≤ tt) (bounded len 11 (ltb v 10) _ _ (lit≤ tt) (bounded len 11 (ltb v 11) _ _ (lit≤ tt) (lit≤ tt))))))
+    (bounded len 11 (ltb v 9) _ _ (lit≤ tt) (bounded len 11 (ltb v 10) _ _ (lit≤ tt) (bounded len 11 (ltb v 11) _ _ (lit≤ tt) (lit≤ tt))))))
 
 pub length-steps_lines : (n : ℕ) (s : Course) → length (steps_lines n s) ≤ 11 * n + 6
 unfolding steps_lines

@@ -1,3 +1,6 @@
 pub mod Numbers
 pub mod Lines
 pub mod Draws
+pub mod Printed
+pub mod Again
+pub mod Found

@@ -12,7 +12,7 @@ use Rattle.ra_script.specs.declared.line.ScriptFault.TheVariants as faults
 use Rattle.ra_script.specs.Words.{◌>>=◌}
 use Rattle.ra_script.specs.Reading.{line_at, lines_at, numbered, text_lines, without_empty_last, Fails}
 
-abbrev is_newline : ℕ → Bool
+abbrev pub is_newline : ℕ → Bool
 is_newline c = eqb c 10
 
 -- what was read before, and what is still read
@@ -20,7 +20,7 @@ abbrev pub with_front : List Line → Result (List Line) ScriptFault → Result 
 with_front front read = read >>= λ lines. Ok (front ++ lines)
 
 -- there is always a part
-some_part : {X : Type 0} (p : X → Bool) (xs : List X) → (part : List X) × (parts : List (List X)) × (slice_split p xs ≡ part ∷ parts)
+pub some_part : {X : Type 0} (p : X → Bool) (xs : List X) → (part : List X) × (parts : List (List X)) × (slice_split p xs ≡ part ∷ parts)
 some_part p [] = ([], [], refl)
 some_part p (x ∷ xs) =
     let t = some_part p xs in
@@ -30,11 +30,11 @@ some_part p (x ∷ xs) =
     ]
 
 -- a part before others is a line
-more_parts : (first : List ℕ) (parts : List (List ℕ)) (part : List ℕ) (others : List (List ℕ)) → parts ≡ part ∷ others → without_empty_last (first ∷ parts) ≡ first ∷ without_empty_last parts
+pub more_parts : (first : List ℕ) (parts : List (List ℕ)) (part : List ℕ) (others : List (List ℕ)) → parts ≡ part ∷ others → without_empty_last (first ∷ parts) ≡ first ∷ without_empty_last parts
 more_parts first parts part others e = rw e refl
 
 -- a last part that isn't empty is a line
-last_part : (part : List ℕ) → 0 < length part → without_empty_last (part ∷ []) ≡ part ∷ []
+pub last_part : (part : List ℕ) → 0 < length part → without_empty_last (part ∷ []) ≡ part ∷ []
 last_part [] some = absurd (omega arith)
 last_part (c ∷ part) some = ap (λ (b : Bool). cond b [] ((c ∷ part) ∷ [])) (eqb-suc-zero (length part))
 

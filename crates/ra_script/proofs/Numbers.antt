@@ -49,8 +49,8 @@ unfolding number_at
 number_none limit word none =
     let v = digits_value 10 word in
     refused (ltb v limit && bytes_eq word (decimal v)) v (λ h.
-        let tests = and_parts (ltb v limit) (bytes_eq word (decimal v)) h in
-        none v (ltb-true v limit tests.0) ((bytes_eq-Decides word (decimal v)).0 tests.1))
+    let tests = and_parts (ltb v limit) (bytes_eq word (decimal v)) h in
+    none v (ltb-true v limit tests.0) ((bytes_eq-Decides word (decimal v)).0 tests.1))
 
 -- no decimal begins with a plus, and only that of 0 with a zero
 pub decimal_front : (n : ℕ) → n < 2 ^ 64 → (48 ≤ get_or (decimal n) 0 0) × (get_or (decimal n) 0 0 ≡ 48 → length (decimal n) ≡ 1)

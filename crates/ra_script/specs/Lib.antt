@@ -5,3 +5,5 @@ pub mod Keywords
 pub mod Texts
 pub mod Reading
 pub mod Generated
+pub mod Printable
+pub mod Grammar

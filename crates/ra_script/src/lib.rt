@@ -6,6 +6,7 @@
 mod fault;
 mod generating;
 mod keyword;
+pub mod laws;
 pub mod line;
 mod printing;
 mod reading;
@@ -16,3 +17,6 @@ pub use generating::generate;
 pub use line::{Line, ScriptFault, What};
 pub use printing::print;
 pub use reading::parse;
+
+#[cfg(test)]
+mod tests;

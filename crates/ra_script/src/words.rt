@@ -53,7 +53,11 @@ pub fn moment(word: &[u8]) -> Result<u64, What>
     ensures { result ≡ number_at moment_limit word.now }
 {
     let n = number(word)?;
-    if n < 1 << 53 { Ok(n) } else { Err(What::BadNumber) }
+    if n < 1 << 53 {
+        Ok(n)
+    } else {
+        Err(What::BadNumber)
+    }
 }
 
 /// The count that a word is.

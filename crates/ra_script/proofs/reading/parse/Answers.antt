@@ -9,7 +9,7 @@ returns-in_err-read_numbered c =
     let p = err_from_is_err_and c.from_residual.result c.from_residual.ensures.1 in
     let some = is_some_text (length c.loop-rest.rest.now) c.is_empty.result c.is_empty.ensures c.loop-rest-test.true in
     rw (p.1, p.2) (fault_passes c.in_err-read_numbered.field-0.0 _ (script_at c.args.bytes.now) c.in_err-read_numbered.ensures
-        (λ fault. one_fault c.loop-rest.lines.items c.loop-rest.number c.loop-rest.rest.now c.first_line.result.0.now c.first_line.result.1.now fault (script_at c.args.bytes.now) some c.first_line.ensures.line c.first_line.ensures.rest c.loop-rest.invariant.read))
+    (λ fault. one_fault c.loop-rest.lines.items c.loop-rest.number c.loop-rest.rest.now c.first_line.result.0.now c.first_line.result.1.now fault (script_at c.args.bytes.now) some c.first_line.ensures.line c.first_line.ensures.rest c.loop-rest.invariant.read))
 
 pub loop-rest-preserved : goal.loop-rest-preserved
 loop-rest-preserved c =
