@@ -1,8 +1,8 @@
 -- What is printed is read again, line by line.
-use Rattle.std.proofs.Common.{◌≡◌, ℕ, zero, suc, ◌+◌, ◌<◌, ◌≤◌, Bool, true, false, eqb, List, [], ◌∷◌, ◌++◌, length, get_or, cond, map, Result, Ok, Err, refl, sym, ap, ◌∙◌, arith, append_assoc}
+use Rattle.std.proofs.Common.{◌≡◌, ℕ, ◌+◌, ◌<◌, ◌≤◌, Bool, true, false, eqb, List, [], ◌∷◌, length, get_or, cond, map, Result, Ok, Err, refl, ap, ◌∙◌, arith, append_assoc}
 use Rattle.std.specs.Prelude.{codes}
 use Rattle.std.proofs.lemmas.List.Sums.{AllPass-from_list_all}
-use Rattle.std.specs.List.{All, AllByRecursion, list_all, slice_split, flat_map, join_with_byte}
+use Rattle.std.specs.List.{All, AllByRecursion, list_all, slice_split, join_with_byte}
 use Rattle.std.specs.Fmt.{decimal}
 use Rattle.std.proofs.lemmas.Bool.Decides.{nat_tests}
 use Rattle.std.proofs.lemmas.List.Splits.{slice_split_none, slice_split_at}
@@ -13,11 +13,11 @@ use Rattle.ra_script.specs.declared.line.Line.{Line}
 use Rattle.ra_script.specs.declared.line.Line.TheVariants.{Base, Do, Drain}
 use Rattle.ra_script.specs.declared.line.What.{What}
 use Rattle.ra_script.specs.declared.line.What.TheVariants.{NotText}
-use Rattle.ra_script.specs.Words.{◌>>=◌, side_text, count_text, bytes_text, number_limit, moment_limit}
+use Rattle.ra_script.specs.Words.{side_text, count_text, bytes_text, number_limit, moment_limit}
 use Rattle.ra_script.specs.Keywords.{keyword_at}
-use Rattle.ra_script.specs.Texts.{line_text, line_words}
+use Rattle.ra_script.specs.Texts.{line_text}
 use Rattle.ra_script.specs.Reading.{is_text, words_at, line_at, lines_at, text_lines, without_empty_last, row_at, nothing_at, one_number_at, one_side_at, side_bytes_at, side_count_at, side_link_count_at, script_at}
-use Rattle.ra_script.specs.Printable.{IsInRange, IsNoBase, HasBaseFirst, IsPrintable, ended_text, parted_text}
+use Rattle.ra_script.specs.Printable.{IsInRange, IsNoBase, IsPrintable, ended_text, parted_text}
 use Rattle.ra_script.proofs.Lines.{is_newline, some_part, more_parts, last_part}
 use Rattle.ra_script.proofs.Printed.{IsWord, is_space, literal_word, side_word, decimal_word, count_word, bytes_word, side_again, decimal_again, count_again, bytes_again, split_words, text_words}
 

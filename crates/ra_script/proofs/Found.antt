@@ -1,10 +1,10 @@
 -- What is read is in the grammar.
-use Rattle.std.proofs.Common.{◌≡◌, ℕ, zero, suc, ◌+◌, ◌*◌, ◌<◌, ◌≤◌, ◌⊎◌, inl, inr, Bool, true, false, ◌&&◌, cond, eqb, List, [], ◌∷◌, ◌++◌, length, get_or, drop, Option, Some, None, Result, Ok, Err, refl, sym, ap, subst, ◌∙◌, arith}
+use Rattle.std.proofs.Common.{◌≡◌, ℕ, ◌+◌, ◌<◌, ◌≤◌, inl, inr, Bool, true, false, cond, eqb, List, [], ◌∷◌, length, get_or, drop, Option, Some, None, Result, Ok, Err, refl, sym, ap, subst, ◌∙◌, arith}
 use Rattle.std.specs.Prelude.{codes, find}
 use Rattle.std.specs.List.{AllByRecursion, list_all, slice_split}
 use Rattle.std.specs.Str.{bytes_eq}
 use Rattle.std.specs.Fmt.{decimal}
-use Rattle.std.proofs.lemmas.Bool.{eqb-true, eqb-false}
+use Rattle.std.proofs.lemmas.Bool.{eqb-true}
 use Rattle.std.proofs.lemmas.Bool.Decides.{nat_tests}
 use Rattle.std.proofs.lemmas.Slice.Eq.{bytes_eq-Decides}
 use Rattle.hex.specs.Hex.{IsBytes, decode_of}
@@ -18,15 +18,14 @@ use Rattle.ra_base.specs.declared.event.Event.TheVariants as events
 use Rattle.ra_script.specs.declared.line.Line.{Line}
 use Rattle.ra_script.specs.declared.line.Line.TheVariants.{Base, Do, Drain}
 use Rattle.ra_script.specs.declared.line.What.{What}
-use Rattle.ra_script.specs.declared.line.What.TheVariants.{NotText, UnknownWord, WrongCount, BadBytes}
+use Rattle.ra_script.specs.declared.line.What.TheVariants.{NotText, UnknownWord, BadBytes}
 use Rattle.ra_script.specs.declared.line.ScriptFault.{ScriptFault}
 use Rattle.ra_script.specs.declared.keyword.Keyword.{Keyword}
 use Rattle.ra_script.specs.declared.keyword.Keyword.TheVariants as words
 use Rattle.ra_script.specs.Keywords.{keyword_text, keywords, keyword_at}
 use Rattle.ra_script.specs.Words.{◌>>=◌, side_text, count_text, side_at, number_at, count_at, bytes_at, digits_or_bad, number_limit, moment_limit}
-use Rattle.ra_script.specs.Texts.{line_words}
 use Rattle.ra_script.specs.Reading.{is_text, is_out_of_place, from_keyword, words_at, line_at, lines_at, numbered, text_lines, script_at, row_at, nothing_at, one_number_at, one_side_at, side_bytes_at, side_count_at, side_link_count_at}
-use Rattle.ra_script.specs.Printable.{IsCountInRange, IsInRange, IsNoBase, HasBaseFirst, IsPrintable}
+use Rattle.ra_script.specs.Printable.{IsCountInRange, IsInRange, IsNoBase, IsPrintable}
 use Rattle.ra_script.specs.Grammar.{SpellsBytes, Spells, IsLineOf, AreLinesOf, IsScriptOf}
 use Rattle.ra_script.proofs.Numbers.{number_found}
 use Rattle.ra_script.proofs.Again.{IsPlace}
@@ -106,7 +105,7 @@ bytes_found : (word bytes : List ℕ) → bytes_at word ≡ Ok bytes → IsBytes
 unfolding bytes_at
 bytes_found word bytes e = bytes_cases (bytes_eq word (codes "-")) (eqb (length word) 0) word bytes (same word (codes "-")) (λ h. grind (arith, nat_tests)) e
 
--- ---- what stands behind the first word
+-- ---- what stands after the first word
 
 nothing_found : (args : List (List ℕ)) (x : Unit {0}) → nothing_at args ≡ Ok x → args ≡ []
 unfolding nothing_at

@@ -4,3 +4,4 @@ pub mod Draws
 pub mod Printed
 pub mod Again
 pub mod Found
+pub mod Complete

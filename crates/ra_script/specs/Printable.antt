@@ -45,7 +45,7 @@ pub record IsPrintable (lines : List Line) : Type 0 where
   pub base_first : HasBaseFirst lines
   pub in_range : AllByRecursion IsInRange lines
 
--- the lines with a newline behind each, and with one between each two
+-- the lines with a newline after each, and with one between each two
 abbrev pub ended_text : List Line → List ℕ
 ended_text lines = flat_map (λ line. line_text line ++ 10 ∷ []) lines
 

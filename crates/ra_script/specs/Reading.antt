@@ -1,5 +1,5 @@
 -- Reading a line, word by word, and a whole text, line by line.
-use Rattle.std.specs.Prelude.{◌≡◌, ℕ, ◌+◌, ◌==◌, ◌&&◌, nat_le, nat_eq, Bool, true, false, not, if◌then◌else◌, List, [], ◌∷◌, length, Option, Some, None, Result, Ok, Err, Vec}
+use Rattle.std.specs.Prelude.{◌≡◌, ℕ, ◌+◌, ◌==◌, ◌&&◌, nat_le, Bool, false, not, if◌then◌else◌, List, [], ◌∷◌, length, Option, Some, None, Result, Ok, Err}
 use Rattle.std.specs.List.{slice_split, list_all}
 use Rattle.ra_base.specs.declared.event.Side.{Side}
 use Rattle.ra_base.specs.declared.event.Count.{Count}
@@ -15,7 +15,7 @@ use Rattle.ra_script.specs.declared.keyword.Keyword.TheVariants as words
 use Rattle.ra_script.specs.Keywords.{keyword_at}
 use Rattle.ra_script.specs.Words.{◌>>=◌, number_limit, moment_limit, side_at, number_at, count_at, bytes_at}
 
--- ---- what stands behind the first word
+-- ---- what stands after the first word
 
 unfoldable pub nothing_at : List (List ℕ) → Result (Unit {0}) What
 nothing_at [] = Ok tt
@@ -53,7 +53,7 @@ side_link_count_at _ = Err WrongCount
 
 -- ---- a line
 
--- the line that a first word and the words behind it say
+-- the line that a first word and the words after it say
 unfoldable pub row_at : Keyword → List (List ℕ) → Result Line What
 row_at words.Base args = one_number_at number_limit args >>= λ n. Ok (Base n)
 row_at words.Link args = nothing_at args >>= λ _. Ok (Do events.Link)

@@ -12,7 +12,7 @@ use Rattle.ra_base.specs.declared.event.Count.TheVariants as counts
 use Rattle.ra_script.specs.declared.line.What.{What}
 use Rattle.ra_script.specs.declared.line.What.TheVariants.{UnknownWord, BadNumber, BadBytes}
 
--- a step behind another, which goes on where the first did not fail
+-- a step after another, which goes on where the first did not fail
 infixl 10 ◌>>=◌
 abbrev pub ◌>>=◌ : {A B E : Type 0} → Result A E → (A → Result B E) → Result B E
 (Ok x) >>= f = f x

@@ -1,8 +1,10 @@
 //! Reading a script.
-ghost use Rattle.std.specs.Prelude.{◌≡◌, ◌==◌, map, position, IfOk};
+ghost use Rattle.std.specs.Prelude.{◌≡◌, ◌==◌, map, position, List, IfOk};
 ghost use Rattle.std.specs.List.{slice_split, list_all, before_first, after_first};
+ghost use Rattle.ra_script.specs.declared.line.Line.{Line};
 ghost use Rattle.ra_script.specs.Faults.{LineGives};
 ghost use Rattle.ra_script.specs.Reading.{words_at, is_text, line_at, numbered, script_at, Gives};
+ghost use Rattle.ra_script.specs.Grammar.{IsScriptOf};
 
 use crate::fault::LineFault;
 use crate::keyword::{Keyword, find_keyword};
@@ -69,7 +71,7 @@ fn newline(text: &[u8]) -> Option<usize>
     text.iter().position(|c| *c == b'\n')
 }
 
-/// The text before the first newline and the text behind it, which is empty where there is none.
+/// The text before the first newline and the text after it, which is empty where there is none.
 fn first_line(text: &[u8]) -> (&[u8], &[u8])
     ensures line { result.0.now ≡ before_first (λ c. c == 10) text.now }
     ensures rest { result.1.now ≡ after_first (λ c. c == 10) text.now }
@@ -80,8 +82,8 @@ fn first_line(text: &[u8]) -> (&[u8], &[u8])
     }
 }
 
-/// The lines of a script, or the first line without a reading and its first cause. An empty text has no lines.
-pub fn parse(alloc: Global, bytes: &[u8]) -> Result<Vec<Line>, ScriptFault>
+/// The lines of a script, or its first fault.
+fn read_all(alloc: Global, bytes: &[u8]) -> Result<Vec<Line>, ScriptFault>
     ensures { Gives (λ lines. lines.items) result (script_at bytes.now) }
 {
     let mut lines = Vec::new(alloc);
@@ -94,4 +96,17 @@ pub fn parse(alloc: Global, bytes: &[u8]) -> Result<Vec<Line>, ScriptFault>
         number += 1;
     }
     Ok(lines)
+}
+
+/// The lines of a script, or the first line without a reading and its first cause. An empty text has no lines, and the newline
+/// after the last line may be missing.
+pub fn parse(alloc: Global, bytes: &[u8]) -> Result<Vec<Line>, ScriptFault>
+    // What is read is a script of these lines.
+    ensures found { IfOk result (λ lines. IsScriptOf bytes.now lines.items) }
+    // A script of lines is read as these, unless memory runs out.
+    ensures only { (lines : List Line) → IsScriptOf bytes.now lines → Gives (λ read. read.items) result (Ok lines) }
+    // Which fault it is.
+    ensures exact { Gives (λ lines. lines.items) result (script_at bytes.now) }
+{
+    read_all(alloc, bytes)
 }

@@ -1,4 +1,4 @@
-//! What stands behind the first word of a line.
+//! What stands after the first word of a line.
 ghost use Rattle.std.specs.Prelude.{◌≡◌, map};
 ghost use Rattle.ra_script.specs.Faults.{LineGives};
 ghost use Rattle.ra_script.specs.Words.{number_limit, moment_limit};
@@ -85,7 +85,7 @@ fn side_link_count(args: &[&[u8]]) -> Result<(Side, u64, Count), What>
     }
 }
 
-/// The line that a first word and the words behind it say.
+/// The line that a first word and the words after it say.
 #[tactic(auto, unfolding(crate::specs::Reading::row_at))]
 pub fn read_row(alloc: Global, keyword: Keyword, args: &[&[u8]]) -> Result<Line, LineFault>
     ensures { LineGives result (row_at keyword (map (λ w. w.now) args.now)) }

@@ -5,7 +5,7 @@ use Rattle.ra_script.proofs.generating.generate.Given as goal
 -- the lines so far and those of the steps that are left are all
 abbrev pub invariant-loop : goal.invariant-loop
 invariant-loop l = record {
-  lines : l.lines.items ++ steps_lines (l.steps - l.counter) l.course ≡ generated l.fn.start l.fn.steps;
-  link : l.course.link ≤ 1 + l.counter;
-  moment : l.course.moment ≤ 4000 * l.counter;
+  lines : l.lines.items ++ steps_lines (l.steps - l.counter) l.generator ≡ generated l.fn.start l.fn.steps;
+  link : l.generator.link ≤ 1 + l.counter;
+  moment : l.generator.moment ≤ 4000 * l.counter;
 }
