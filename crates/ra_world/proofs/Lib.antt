@@ -1,0 +1,2 @@
+pub mod PeerCalls
+pub mod WorldEvents

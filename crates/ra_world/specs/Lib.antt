@@ -1,0 +1,4 @@
+pub mod Chosen
+pub mod EndEvents
+pub mod Outcomes
+pub mod WorldStates
