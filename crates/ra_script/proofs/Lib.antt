@@ -5,3 +5,4 @@ pub mod Printed
 pub mod Again
 pub mod Found
 pub mod Complete
+pub mod WorkedRows

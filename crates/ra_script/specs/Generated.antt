@@ -77,9 +77,9 @@ step_lines v s =
     else if nat_lt v 11 then transfer_lines A B s.link (some_bytes s)
     else transfer_lines A B s.link (some_bytes s) ++ reconnect_lines s.link
 
--- what is after it
-unfoldable pub step_after : ℕ → Generator → Generator
-step_after v s =
+-- the generator after it
+unfoldable pub generator_after : ℕ → Generator → Generator
+generator_after v s =
     if nat_lt v 5 then record s { state = state_after_body s.state }
     else if nat_lt v 9 then s
     else if nat_lt v 10 then record s { state = next_state s.state; moment = later s }
@@ -96,7 +96,7 @@ after_kind s = record s { state = next_state s.state }
 -- that many steps, and then the last lines
 unfoldable pub steps_lines : ℕ → Generator → List Line
 steps_lines zero s = last_lines s.link
-steps_lines (suc n) s = step_lines (kind_drawn s) (after_kind s) ++ steps_lines n (step_after (kind_drawn s) (after_kind s))
+steps_lines (suc n) s = step_lines (kind_drawn s) (after_kind s) ++ steps_lines n (generator_after (kind_drawn s) (after_kind s))
 
 abbrev pub generator_from : ℕ → Generator
 generator_from start = record { state = start; link = 1; moment = 0 }

@@ -1,7 +1,7 @@
 //! A script that is drawn from a number, the same each time.
 ghost use Rattle.std.specs.Prelude.{◌≡◌, ◌≤◌, ◌<◌, ◌+◌, ◌*◌, ◌^◌, ◌%◌, ◌++◌, ◌∷◌, [], length, OnOk, IfOk};
 ghost use Rattle.ra_base.specs.declared.event.Count.TheVariants.{All};
-ghost use Rattle.ra_script.specs.Generated.{next_state, drawn, bytes_drawn, state_after, body_drawn, state_after_body, transfer_lines, link_lines, reconnect_lines, tick_lines, last_lines, later, step_lines, step_after, kind_drawn, after_kind, steps_lines, generator_from, generated};
+ghost use Rattle.ra_script.specs.Generated.{next_state, drawn, bytes_drawn, state_after, body_drawn, state_after_body, transfer_lines, link_lines, reconnect_lines, tick_lines, last_lines, later, step_lines, generator_after, kind_drawn, after_kind, steps_lines, generator_from, generated};
 
 use crate::line::Line;
 use ra_base::{Count, Event, Message, NoMemory, Side};
@@ -136,7 +136,7 @@ fn push_say(
 }
 
 /// A step of a kind from 0 to 11.
-#[tactic(auto, unfolding(crate::specs::Generated::step_lines, crate::specs::Generated::step_after))]
+#[tactic(auto, unfolding(crate::specs::Generated::step_lines, crate::specs::Generated::generator_after))]
 fn push_step(
     alloc: Global,
     lines: &mut Vec<Line>,
@@ -146,7 +146,7 @@ fn push_step(
     requires link { generator.old.link + 1 < 2 ^ 64 }
     requires moment { generator.old.moment + 4000 < 2 ^ 64 }
     ensures lines { OnOk result (lines.new.items ≡ lines.old.items ++ step_lines kind generator.old) }
-    ensures generator { OnOk result (generator.new ≡ step_after kind generator.old) }
+    ensures generator { OnOk result (generator.new ≡ generator_after kind generator.old) }
 {
     match kind {
         0..=2 => push_say(alloc, lines, Side::A, &mut generator.state),

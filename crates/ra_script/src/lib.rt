@@ -17,6 +17,7 @@ pub use generating::generate;
 pub use line::{Line, ScriptFault, What};
 pub use printing::print;
 pub use reading::parse;
+pub use words::number;
 
 #[cfg(test)]
 mod tests;

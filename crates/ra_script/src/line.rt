@@ -9,7 +9,7 @@ use std::alloc::{AllocError, AllocFailed};
 /// A line of a script.
 #[derive(Drop)]
 pub enum Line {
-    /// What the moments and links are counted from. It stands in the first line alone.
+    /// The number after which both endpoints count their messages. It stands in the first line alone, and is 0 without it.
     Base { base: u64 },
     /// One event.
     Do { event: Event },
