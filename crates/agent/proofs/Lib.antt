@@ -6,3 +6,7 @@ pub mod Runs
 pub mod Receiving
 pub mod ProgramLemmas
 pub mod WholeLemmas
+pub mod StepLemmas
+pub mod DrainLemmas
+pub mod ScriptLemmas
+pub mod ReplayLemmas

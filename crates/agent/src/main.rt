@@ -8,6 +8,7 @@ mod plain;
 mod read_whole;
 mod receive;
 mod receiver;
+mod replay;
 mod replay_lines;
 mod report;
 #[cfg(test)]
