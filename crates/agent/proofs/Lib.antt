@@ -10,3 +10,4 @@ pub mod StepLemmas
 pub mod DrainLemmas
 pub mod ScriptLemmas
 pub mod ReplayLemmas
+pub mod SoakLemmas

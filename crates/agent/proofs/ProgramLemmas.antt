@@ -1,39 +1,58 @@
 -- The program by its words.
-use Rattle.std.proofs.Common.{◌≡◌, ℕ, Bool, true, false, cond, List, ◌++◌, take, drop, sym, ap, ◌∙◌, refl}
-use Rattle.std.specs.Prelude.{Option, Some}
+use Rattle.std.proofs.Common.{◌≡◌, ℕ, List, ◌++◌, take, drop, sym, ap, ◌∙◌, refl}
+use Rattle.std.specs.Prelude.{Option, Some, None, Result, Ok, Err, IfOk, OnErr}
 use Rattle.std.specs.Io.KnownBytes.{Appends}
 use Rattle.std.proofs.lemmas.List.{take-append-drop}
 use Rattle.ra_ports.specs.Causes.{AppendsFront}
-use Rattle.ra_ports.specs.Texts.{WroteAll, WroteFront}
+use Rattle.ra_ports.specs.Texts.{Told, WroteAll, WroteFront}
 use Rattle.agent.specs.declared.report.Ending.{Ending}
 use Rattle.agent.specs.declared.report.Ending.TheVariants.{Done, Refused}
-use Rattle.agent.specs.Lines.{usage_line}
+use Rattle.agent.specs.declared.report.Fault.{Fault}
+use Rattle.agent.specs.declared.command.Command.{Command}
+use Rattle.agent.specs.declared.command.Command.TheVariants.{Receive, Replay, Soak}
 use Rattle.agent.specs.Receive.{receive_report}
-use Rattle.agent.specs.Programs.{is_receive, status_of, output, status}
+use Rattle.agent.specs.Progress.{IsReported}
+use Rattle.agent.specs.Replay.{replay_report}
+use Rattle.agent.specs.Soak.{soak_text}
+use Rattle.agent.specs.Programs.{report_of, status_of, IsPrinted, IsRead}
 use Rattle.agent.proofs.Runs.{some_taken}
 
--- words that are no command
-pub output_usage : (words : List (List ℕ)) (input : List ℕ) → is_receive words ≡ false → output words input ≡ usage_line
-output_usage words input isnt = ap (λ (b : Bool). cond b (receive_report input).text usage_line) isnt
-
--- the words of `receive`
-pub output_receive : (words : List (List ℕ)) (input : List ℕ) → is_receive words ≡ true → (output words input ≡ (receive_report input).text) × (status words input ≡ status_of (receive_report input).ending)
-output_receive words input holds =
-    (ap (λ (b : Bool). cond b (receive_report input).text usage_line) holds, ap (λ (b : Bool). cond b (status_of (receive_report input).ending) 2) holds)
-
-pub usage_front : (words : List (List ℕ)) (input before : List ℕ) (to to' : Option (List ℕ)) → is_receive words ≡ false → to ≡ Some before → AppendsFront to to' usage_line → WroteFront before (output words input) to'
-usage_front words input before to to' isnt is wrote =
+-- a text of which a front was written
+pub front_of_text : (text before : List ℕ) (to to' : Option (List ℕ)) → to ≡ Some before → AppendsFront to to' text → WroteFront before text to'
+front_of_text text before to to' is wrote =
     let n = wrote.0 in
-    record {
-      written = take n usage_line;
-      more = drop n usage_line;
-      parts = output_usage words input isnt ∙ sym (take-append-drop n usage_line);
-      now = some_taken to to' (take n usage_line) before is wrote.1;
-    }
+    record { written = take n text; more = drop n text; parts = sym (take-append-drop n text); now = some_taken to to' (take n text) before is wrote.1 }
 
-pub usage_all : (words : List (List ℕ)) (input before : List ℕ) (to to' : Option (List ℕ)) → is_receive words ≡ false → to ≡ Some before → Appends to to' usage_line → WroteAll before (output words input) to'
-usage_all words input before to to' isnt is wrote = record { now = some_taken to to' usage_line before is wrote ∙ ap (λ (t : List ℕ). Some (before ++ t)) (sym (output_usage words input isnt)) }
+pub all_of_text : (text before : List ℕ) (to to' : Option (List ℕ)) → to ≡ Some before → Appends to to' text → WroteAll before text to'
+all_of_text text before to to' is wrote = record { now = some_taken to to' text before is wrote }
+
+pub printed_receive : (input before : List ℕ) (end : Ending) (left taken : Option (List ℕ)) → IsReported receive_report input before end left taken → IsPrinted Receive input before end left taken
+printed_receive input before end left taken r = record { text = r.text; ending = r.ending; read = r.read }
+
+pub printed_replay : (input before : List ℕ) (end : Ending) (left taken : Option (List ℕ)) → IsReported replay_report input before end left taken → IsPrinted Replay input before end left taken
+printed_replay input before end left taken r = record { text = r.text; ending = r.ending; read = r.read }
+
+pub printed_soak : (start steps : ℕ) (input before : List ℕ) (end : Ending) (left to to' : Option (List ℕ)) → left ≡ Some input → to ≡ Some before → end ≡ Done → Appends to to' (soak_text start steps)
+    → IsPrinted (Soak start steps) input before end left to'
+printed_soak start steps input before end left to to' here is done wrote = record { text = all_of_text (soak_text start steps) before to to' is wrote; ending = done; read = λ e. here }
 
 pub done_from_zero : (ending : Ending) → status_of ending ≡ 0 → ending ≡ Done
 done_from_zero Done e = refl
 done_from_zero Refused e = absurd cc
+
+-- ---- each command
+
+pub receive_done : (r : Result Ending Fault) (left left' to to' : Option (List ℕ)) → IfOk r (λ end. Told left to (λ input before. IsReported receive_report input before end left' to'))
+    → IfOk r (λ end. Told left to (λ input before. IsPrinted Receive input before end left' to'))
+receive_done (Ok end) left left' to to' h = λ input before here is. printed_receive input before end left' to' (h input before here is)
+receive_done (Err fault) left left' to to' h = tt
+
+pub replay_done : (r : Result Ending Fault) (left left' to to' : Option (List ℕ)) → IfOk r (λ end. Told left to (λ input before. IsReported replay_report input before end left' to'))
+    → IfOk r (λ end. Told left to (λ input before. IsPrinted Replay input before end left' to'))
+replay_done (Ok end) left left' to to' h = λ input before here is. printed_replay input before end left' to' (h input before here is)
+replay_done (Err fault) left left' to to' h = tt
+
+pub soak_front : (r : Result Ending Fault) (start steps : ℕ) (left to to' : Option (List ℕ)) → OnErr r (AppendsFront to to' (soak_text start steps))
+    → OnErr r (Told left to (λ input before. WroteFront before (report_of (Soak start steps) input).text to'))
+soak_front (Ok end) start steps left to to' h = tt
+soak_front (Err fault) start steps left to to' h = λ input before here is. front_of_text (soak_text start steps) before to to' is h

@@ -20,7 +20,8 @@ use Rattle.agent.specs.declared.report.Ending.{Ending}
 use Rattle.agent.specs.declared.report.Ending.TheVariants.{Done, Refused}
 use Rattle.agent.specs.ReplayLines.{fault_line, side_counts}
 use Rattle.agent.specs.Receive.{Report, prefixed}
-use Rattle.agent.specs.Replay.{Step, line_step, step_then, lines_report, world_line, side_line, world_behind}
+use Rattle.agent.specs.Replay.{Step, line_step, step_then, lines_report, world_line, side_line}
+use Rattle.agent.specs.Soak.{world_behind}
 use Rattle.agent.specs.Stepping.{Makes, Steps, Adds}
 
 prefixed_both : (a b : List ℕ) (r : Report) → prefixed a (prefixed b r) ≡ prefixed (a ++ b) r

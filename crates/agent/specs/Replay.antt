@@ -18,13 +18,12 @@ use Rattle.ra_script.specs.declared.line.ScriptFault.{ScriptFault}
 use Rattle.ra_script.specs.declared.line.ScriptFault.TheVariants as unread
 use Rattle.ra_script.specs.Causes.{cause_name}
 use Rattle.ra_script.specs.Reading.{script_at}
-use Rattle.ra_script.specs.Generated.{generated}
 use Rattle.agent.specs.declared.report.Ending.{Ending}
 use Rattle.agent.specs.declared.report.Ending.TheVariants.{Done, Refused}
 use Rattle.agent.specs.declared.read_whole.Input.{Input}
 use Rattle.agent.specs.declared.read_whole.Input.TheVariants.{Whole, Over}
 use Rattle.agent.specs.Lines.{line}
-use Rattle.agent.specs.ReplayLines.{side_of, effect_line, handed_line, base_line, fault_line, unread_line, script_over_line, side_counts, side_sums}
+use Rattle.agent.specs.ReplayLines.{side_of, effect_line, handed_line, base_line, fault_line, unread_line, script_over_line, side_counts}
 use Rattle.agent.specs.Receive.{Report, prefixed}
 
 -- the most bytes of a script
@@ -115,26 +114,3 @@ input_report Over = over_report
 
 unfoldable pub replay_report : List ℕ → Report
 replay_report input = if nat_lt script_limit (length input) then over_report else script_report (script_at input)
-
--- ---- a generated script
-
--- the world behind lines, where what is refused changes nothing
-unfoldable pub world_behind : List Line → World → World
-world_behind [] w = w
-world_behind (l ∷ lines) w = world_behind lines (line_step l w).world
-
--- what a side said and heard
-unfoldable pub side_sums_line : Side → World → List ℕ
-side_sums_line side w = let p = peer side w in side_sums side (length p.endpoint.said) (length p.heard)
-
--- the numbers of a run
-abbrev pub summary : ℕ → ℕ → ℕ → World → List ℕ
-summary start steps lines w =
-    line (codes "soak start=" ++ decimal start ++ codes " steps=" ++ decimal steps ++ codes " lines=" ++ decimal lines
-    ++ codes " links=" ++ decimal (length w.links) ++ codes " " ++ side_sums_line A w ++ codes " " ++ side_sums_line B w)
-
--- what is printed for the words `soak START STEPS`
-unfoldable pub soak_text : ℕ → ℕ → List ℕ
-soak_text start steps =
-    let lines = generated start steps in
-    summary start steps (length lines) (world_behind lines (new_world 0))

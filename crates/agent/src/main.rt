@@ -3,6 +3,7 @@
 //! `run_plain` runs the commands that need no socket over any source and sink; `main` gives it the process's own.
 #![tactic(auto)]
 
+mod command;
 mod lines;
 mod plain;
 mod read_whole;
@@ -11,6 +12,7 @@ mod receiver;
 mod replay;
 mod replay_lines;
 mod report;
+mod soak;
 #[cfg(test)]
 mod tests;
 

@@ -1,26 +1,17 @@
 //! The commands that need no socket, over any source and sink.
-ghost use Rattle.std.specs.Prelude.{◌≡◌, ◌⊎◌, ◌≤◌, Some, [], string_bytes, map, false};
+ghost use Rattle.std.specs.Prelude.{◌≡◌, ◌⊎◌, ◌≤◌, Some, None, string_bytes, map, Err, OnErr, IfOk};
 ghost use Rattle.ra_ports.specs.Causes.{Rose};
 ghost use Rattle.ra_ports.specs.Texts.{Told, WroteAll, WroteFront};
-ghost use Rattle.agent.specs.Receive.{receive_report};
-ghost use Rattle.agent.specs.Progress.{WroteLines};
-ghost use Rattle.agent.specs.Programs.{is_receive, status_of, output, status, IsStatus, IsWritten, IsBrokenOff};
+ghost use Rattle.agent.specs.Programs.{command_of, status_of, report_of, output, status, IsCommand, IsPrinted, IsRead, WroteBefore, IsStatus, IsWritten, IsBrokenOff};
 
+use crate::command::{Command, command_of};
 use crate::lines::USAGE;
 use crate::receive::receive;
+use crate::replay::replay;
 use crate::report::{Ending, Fault};
+use crate::soak::soak;
 use ra_ports::{Sink, Source, write_all};
 use std::alloc::Global;
-
-/// Whether the words are `receive` alone.
-fn is_receive(words: &[String]) -> bool
-    ensures { result ≡ is_receive (map string_bytes words.now) }
-{
-    match words {
-        [word] => word.as_str() == "receive",
-        _ => false,
-    }
-}
 
 fn status_of(ending: Ending) -> u8
     ensures { result ≡ status_of ending }
@@ -28,6 +19,29 @@ fn status_of(ending: Ending) -> u8
     match ending {
         Ending::Done => 0,
         Ending::Refused => 5,
+    }
+}
+
+/// Runs a command, and answers how the run ended.
+fn run<S: Source, K: Sink>(
+    alloc: Global,
+    command: Command,
+    source: &mut S,
+    sink: &mut K,
+) -> Result<Ending, Fault>
+    requires { IsCommand command }
+    ensures done { IfOk result (λ ending. Told (S.left source.old) (K.taken sink.old) (λ input before.
+        IsPrinted command input before ending (S.left source.new) (K.taken sink.new))) }
+    ensures front { OnErr result (Told (S.left source.old) (K.taken sink.old) (λ input before. WroteFront before (report_of command input).text (K.taken sink.new))) }
+    ensures lines { result ≡ Err Fault.Read → Told (S.left source.old) (K.taken sink.old) (λ input before.
+        WroteBefore (Some command) input before (S.left source.new) (K.taken sink.new)) }
+    ensures read { result ≡ Err Fault.Read → Rose (S.faults source.old) (S.faults source.new) }
+    ensures write { result ≡ Err Fault.Write → Rose (K.faults sink.old) (K.faults sink.new) }
+{
+    match command {
+        Command::Receive => receive(alloc, source, sink),
+        Command::Replay => replay(alloc, source, sink),
+        Command::Soak { start, steps } => soak(alloc, start, steps, sink),
     }
 }
 
@@ -44,28 +58,29 @@ pub fn run_plain<S: Source, K: Sink>(
         WroteAll before (output (map string_bytes words.now) input) (K.taken sink.new)) }
     ensures status { IsWritten result → Told (S.left source.old) (K.taken sink.old) (λ input before. result ≡ status (map string_bytes words.now) input) }
 
-    // The input was read to its end.
-    ensures read_all { result ≡ 0 → Told (S.left source.old) (K.taken sink.old) (λ _ _. S.left source.new ≡ Some []) }
+    // The input was read to its end where the command has one.
+    ensures read_all { result ≡ 0 → Told (S.left source.old) (K.taken sink.old) (λ input _. IsRead (command_of (map string_bytes words.now)) input (S.left source.new)) }
 
     // A run that is broken off has written a front of its output, and has its cause.
     ensures front { IsBrokenOff result → Told (S.left source.old) (K.taken sink.old) (λ input before.
         WroteFront before (output (map string_bytes words.now) input) (K.taken sink.new)) }
-    ensures lines { result ≡ 3 → Told (S.left source.old) (K.taken sink.old) (λ input before. WroteLines receive_report input before (S.left source.new) (K.taken sink.new)) }
+    ensures lines { result ≡ 3 → Told (S.left source.old) (K.taken sink.old) (λ input before.
+        WroteBefore (command_of (map string_bytes words.now)) input before (S.left source.new) (K.taken sink.new)) }
     ensures read { result ≡ 3 → Rose (S.faults source.old) (S.faults source.new) }
     ensures write { result ≡ 4 → Rose (K.faults sink.old) (K.faults sink.new) }
 
     // The words are no command exactly where they aren't, also where nothing is told.
-    ensures usage { result ≡ 2 → is_receive (map string_bytes words.now) ≡ false }
-    ensures no_command { is_receive (map string_bytes words.now) ≡ false → (result ≡ 2) ⊎ (result ≡ 4) }
+    ensures usage { result ≡ 2 → command_of (map string_bytes words.now) ≡ None }
+    ensures no_command { command_of (map string_bytes words.now) ≡ None → (result ≡ 2) ⊎ (result ≡ 4) }
     ensures known { IsStatus result }
 {
-    if !is_receive(words) {
+    let Some(command) = command_of(words) else {
         let Ok(()) = write_all(sink, USAGE) else {
             return 4;
         };
         return 2;
-    }
-    match receive(alloc, source, sink) {
+    };
+    match run(alloc, command, source, sink) {
         Ok(ending) => status_of(ending),
         Err(Fault::Read) => 3,
         Err(Fault::Write) => 4,

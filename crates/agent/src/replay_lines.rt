@@ -19,7 +19,7 @@ fn side_text(side: Side) -> &'static str
 }
 
 /// Adds a text.
-fn push_text(text: &mut Vec<u8>, more: &str) -> Result<(), NoMemory>
+pub fn push_text(text: &mut Vec<u8>, more: &str) -> Result<(), NoMemory>
     ensures { OnOk result (text.new.items ≡ text.old.items ++ more.now) }
 {
     text.extend_from_slice(more.as_bytes())?;
@@ -181,7 +181,7 @@ pub fn push_base(text: &mut Vec<u8>, base: u64) -> Result<(), NoMemory>
 }
 
 /// Adds a number between two texts.
-fn push_between(text: &mut Vec<u8>, before: &str, n: u64, behind: &str) -> Result<(), NoMemory>
+pub fn push_between(text: &mut Vec<u8>, before: &str, n: u64, behind: &str) -> Result<(), NoMemory>
     ensures { OnOk result (text.new.items ≡ text.old.items ++ (before.now ++ decimal n ++ behind.now)) }
 {
     push_text(text, before)?;
