@@ -90,6 +90,7 @@ impl Endpoint {
         }
     }
 
+    /// Where the endpoint stands.
     pub fn phase(&self) -> Phase
         ensures { result ≡ self.now.phase }
     {
@@ -103,6 +104,7 @@ impl Endpoint {
         self.epoch
     }
 
+    /// The last ids given, handed up and acknowledged.
     pub fn marks(&self) -> Marks
         ensures consistent { IsConsistent self.now }
         ensures marks { result ≡ record { sent = self.now.sent; received = self.now.received; acknowledged = self.now.acknowledged } }
