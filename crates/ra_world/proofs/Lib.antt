@@ -1,2 +1,4 @@
+pub mod Paired
 pub mod PeerCalls
+pub mod RunSteps
 pub mod WorldEvents

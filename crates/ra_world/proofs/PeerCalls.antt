@@ -4,16 +4,13 @@ use Rattle.std.specs.Prelude.{◌≢◌}
 use Rattle.std.proofs.lemmas.Bool.{cond_both}
 use Rattle.std.proofs.lemmas.List.{map-append}
 use Rattle.ra_base.specs.declared.event.Side.{Side}
-use Rattle.ra_base.specs.declared.event.Count.{Count}
 use Rattle.ra_base.specs.declared.event.Event.{Event}
 use Rattle.ra_base.specs.declared.event.Event.TheVariants.{Link as LinkMade, At, Begin, Finish, Say, Control, Pause, Resume, Leave, Write, Read, Take, Tick, Lose, Cut}
 use Rattle.ra_world.specs.EndEvents.{end_refusal, end_happens, end_effect}
 use Rattle.ra_model.specs.declared.frame.Frame.{Frame}
-use Rattle.ra_model.specs.declared.effect.Effect.{Effect}
 use Rattle.ra_model.specs.declared.effect.Effect.TheVariants.{Done, Said, Ticked}
 use Rattle.ra_model.specs.declared.fault.EndFault.{EndFault}
 use Rattle.ra_model.specs.declared.fault.EndFault.TheVariants.{Ended, Stale, NoLink, NotJoining, TooLarge, IdsSpent, TooLong, NoMemory}
-use Rattle.ra_model.specs.declared.fault.EventFault.{EventFault}
 use Rattle.ra_model.specs.declared.fault.EventFault.TheVariants.{NoMemory as WantOfMemory}
 use Rattle.ra_model.specs.EndpointStates.{EndpointState, StandsFor, with_said}
 use Rattle.ra_model.specs.Endpoints.{Endpoint, SaidMessage, is_linked, is_up, is_joining, is_ended, shown, sent, owed}
@@ -27,8 +24,8 @@ use Rattle.ra_model.specs.FrameKinds.{frame_kind}
 use Rattle.ra_model.specs.Events.{taken, handed_up, heard_with}
 use Rattle.ra_model.proofs.Takes.{messages_came}
 use Rattle.ra_model.proofs.Calls.{messages_rewritten}
-use Rattle.ra_model.proofs.Runs.{says_free, end_none}
-use Rattle.ra_model.specs.Worlds.{Peer, with_endpoint}
+use Rattle.ra_model.proofs.Runs.{says_free}
+use Rattle.ra_model.specs.Worlds.{Peer}
 use Rattle.ra_model.specs.Pairs.{messages, body_of}
 use Rattle.ra_proto.specs.Refused.{RefusedBy as EndRefusedBy}
 use Rattle.ra_world.specs.Outcomes.{Answers, event_fault, done_of}
@@ -117,26 +114,30 @@ pub say_answers : (s : PeerState) (t : EndpointState) (given kept body : List �
     → (at_end (say_refusal body p.endpoint) ≡ None) × (Said id ≡ Said (sent p.endpoint + 1)) × StandsForPeer (record { endpoint = t; said = said; heard = s.heard }) (called (say body now) p)
 say_answers s t given kept body said now id same copied more free is stands p h =
     let free' : say_refusal body p.endpoint ≡ None =
-        ap (say_refusal body) h.endpoint.same ∙ ap (λ (n : ℕ). say_fault s.endpoint.phase n (length body)) (sym h.endpoint.sent) ∙ ap (λ (b : List ℕ). say_fault s.endpoint.phase s.endpoint.sent (length b)) (sym same) ∙ free in
-    (ap at_end free', ap Said (is ∙ ap (λ (n : ℕ). n + 1) h.endpoint.sent),
-    record {
-      endpoint = subst (λ (b : List ℕ). StandsFor t (say b now p.endpoint)) same (stands p.endpoint h.endpoint);
-      said = more ∙ ap (λ (b : List ℕ). s.said ++ b ∷ []) copied ∙ ap (λ (ms : List (List ℕ)). ms ++ body ∷ []) h.said ∙ sym (messages_said body now p.endpoint (says_free body p.endpoint free'));
-      heard = h.heard;
-    })
+    ap (say_refusal body) h.endpoint.same ∙ ap (λ (n : ℕ). say_fault s.endpoint.phase n (length body)) (sym h.endpoint.sent) ∙ ap (λ (b : List ℕ). say_fault s.endpoint.phase s.endpoint.sent (length b)) (sym same) ∙ free in (
+      ap at_end free',
+      ap Said (is ∙ ap (λ (n : ℕ). n + 1) h.endpoint.sent),
+      record {
+        endpoint = subst (λ (b : List ℕ). StandsFor t (say b now p.endpoint)) same (stands p.endpoint h.endpoint);
+        said = more ∙ ap (λ (b : List ℕ). s.said ++ b ∷ []) copied ∙ ap (λ (ms : List (List ℕ)). ms ++ body ∷ []) h.said ∙ sym (messages_said body now p.endpoint (says_free body p.endpoint free'));
+        heard = h.heard;
+      },
+    )
 
 pub take_answers : (s : PeerState) (x t : EndpointState) (up : Option Delivery) (heard : List (List ℕ)) (now : ℕ) → x ≡ s.endpoint → heard ≡ heard_with up s.heard → take_fault x.phase x.unread ≡ None
     → ((e : Endpoint) → StandsFor x e → StandsFor t (take_frame now e)) → ((e : Endpoint) → StandsFor x e → up ≡ delivery e) → (p : Peer) → StandsForPeer s p
     → (at_end (take_refusal p.endpoint) ≡ None) × (handed_up up ≡ handed_up (delivery p.endpoint)) × StandsForPeer (record { endpoint = t; said = s.said; heard = heard }) (taken now p)
 take_answers s x t up heard now same more free stands handed p h =
     let there : StandsFor x p.endpoint = subst (λ (y : EndpointState). StandsFor y p.endpoint) (sym same) h.endpoint in
-    let gives : up ≡ delivery p.endpoint = handed p.endpoint there in
-    (ap at_end (ap take_refusal there.same ∙ free), ap handed_up gives,
-    record {
-      endpoint = stands p.endpoint there;
-      said = h.said ∙ sym (silent_take p.endpoint now);
-      heard = more ∙ ap (λ (ms : List (List ℕ)). heard_with up ms) h.heard ∙ ap (λ (d : Option Delivery). heard_with d p.heard) gives;
-    })
+    let gives : up ≡ delivery p.endpoint = handed p.endpoint there in (
+      ap at_end (ap take_refusal there.same ∙ free),
+      ap handed_up gives,
+      record {
+        endpoint = stands p.endpoint there;
+        said = h.said ∙ sym (silent_take p.endpoint now);
+        heard = more ∙ ap (λ (ms : List (List ℕ)). heard_with up ms) h.heard ∙ ap (λ (d : Option Delivery). heard_with d p.heard) gives;
+      },
+    )
 
 pub lose_stands : (s : PeerState) (t : EndpointState) (present : ℕ) → present ≡ s.endpoint.epoch → ((e : Endpoint) → StandsFor s.endpoint e → StandsFor t (lose present e)) → (p : Peer) → StandsForPeer s p
     → StandsForPeer (record { endpoint = t; said = s.said; heard = s.heard }) (called (lose p.endpoint.epoch) p)

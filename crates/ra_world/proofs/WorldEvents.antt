@@ -1,24 +1,23 @@
 -- What the events of a world in memory stand for.
-use Rattle.std.proofs.Common.{◌≡◌, ℕ, suc, ◌+◌, ◌≤◌, max, Option, Some, None, Result, Ok, Err, OnOk, OnErr, List, [], ◌∷◌, ◌++◌, length, take, length-take, length-append, refl, ap, sym, ◌∙◌, subst, arith}
+use Rattle.std.proofs.Common.{◌≡◌, ℕ, ◌+◌, max, Option, Some, None, Result, Ok, Err, OnOk, List, [], ◌∷◌, ◌++◌, length, take, length-take, length-append, refl, ap, sym, ◌∙◌, subst, arith}
 use Rattle.std.specs.Prelude.{◌≢◌, IfOk}
 use Rattle.ra_base.specs.declared.event.Side.{Side}
 use Rattle.ra_base.specs.declared.event.Side.TheVariants.{A, B}
 use Rattle.ra_base.specs.declared.event.Count.{Count}
 use Rattle.ra_base.specs.declared.event.Count.TheVariants.{All}
 use Rattle.ra_base.specs.declared.event.Event.{Event}
-use Rattle.ra_base.specs.declared.event.Event.TheVariants.{Link as LinkMade, At, Begin, Finish, Say, Control, Pause, Resume, Leave, Write, Read, Take, Tick, Lose, Cut}
+use Rattle.ra_base.specs.declared.event.Event.TheVariants.{Link as LinkMade, At, Begin, Write, Read, Cut}
 use Rattle.ra_model.specs.declared.effect.Effect.{Effect}
 use Rattle.ra_model.specs.declared.effect.Effect.TheVariants.{Link as Linked, Done, Wrote, Read as ReadBytes}
-use Rattle.ra_model.specs.declared.fault.EndFault.{EndFault}
 use Rattle.ra_model.specs.declared.fault.EventFault.{EventFault}
 use Rattle.ra_model.specs.declared.fault.EventFault.TheVariants.{NoMemory as WantOfMemory}
 use Rattle.ra_model.specs.EndpointStates.{EndpointState, StandsFor}
 use Rattle.ra_model.specs.Endpoints.{Endpoint, shown}
 use Rattle.ra_model.specs.Calls.{feed, wrote}
 use Rattle.ra_model.specs.Links.{Link, new_link, other, at_number, put_number, amount, readable, read_on, cut_off}
-use Rattle.ra_model.specs.Worlds.{Peer, World, with_endpoint, peer, with_peer, with_links}
+use Rattle.ra_model.specs.Worlds.{Peer, World, peer, with_peer, with_links}
 use Rattle.ra_model.specs.Refusals.{or_fault, at_end, begin_refusal, feed_refusal, if_many, read_refusal, refusal}
-use Rattle.ra_model.specs.Events.{on_endpoint, begun, begins, reads, read_count, links_written, writes, cuts, happens, unless, after, effect}
+use Rattle.ra_model.specs.Events.{begun, begins, reads, read_count, links_written, cuts, happens, unless, after, effect}
 use Rattle.ra_model.specs.Views.{called}
 use Rattle.ra_model.proofs.Runs.{called_over}
 use Rattle.ra_proto.specs.Shown.{shown_of}
@@ -36,7 +35,7 @@ answers_then : (r : Result Effect EventFault) (cause : Option EventFault) (e : E
 answers_then (Ok answer) cause e T U f h = (h.0, h.1, f h.2)
 answers_then (Err fault) cause e T U f h = h
 
-stands_peer : (side : Side) (s : WorldState) (w : World) → StandsForWorld s w → StandsForPeer (peer_of side s) (peer side w)
+pub stands_peer : (side : Side) (s : WorldState) (w : World) → StandsForWorld s w → StandsForPeer (peer_of side s) (peer side w)
 stands_peer A s w t = t.a
 stands_peer B s w t = t.b
 
@@ -90,7 +89,7 @@ begin_answers side link count bytes l s peers links r chosen does there is w t =
     let p : Peer = peer side w in
     let n : ℕ = amount count (length (readable side l)) in
     let more : links ≡ put_number w.links link (read_on side n l) =
-        is ∙ ap (λ (k : ℕ). put_number s.links link (read_on side k l)) chosen.count_is ∙ ap (λ (ls : List Link). put_number ls link (read_on side n l)) t.links in
+    is ∙ ap (λ (k : ℕ). put_number s.links link (read_on side k l)) chosen.count_is ∙ ap (λ (ls : List Link). put_number ls link (read_on side n l)) t.links in
     subst (λ (found : Option Link). Answers r (or_fault (read_refusal side count link found) (at_end (begin_refusal link p.endpoint))) Done (StandsForWorld (placed s peers links) (begins side link count found w))) (sym (chosen_of side link count bytes l s w t chosen))
     (there_then (at_end (begin_refusal link p.endpoint)) (if_many count (length (readable side l))) r Done _ chosen.there
     (subst (λ (m : ℕ). Answers r (at_end (begin_refusal link p.endpoint)) Done (StandsForWorld (placed s peers links) (with_peer side (begun link (take n (readable side l)) m p) (with_links (put_number w.links link (read_on side n l)) w)))) t.moment
@@ -107,7 +106,7 @@ read_answers side link count bytes l s peers links r chosen does there is w t =
     let n : ℕ = amount count (length (readable side l)) in
     let ls : List Link = put_number w.links link (read_on side n l) in
     let more : links ≡ ls =
-        is ∙ ap (λ (k : ℕ). put_number s.links link (read_on side k l)) chosen.count_is ∙ ap (λ (ls : List Link). put_number ls link (read_on side n l)) t.links in
+    is ∙ ap (λ (k : ℕ). put_number s.links link (read_on side k l)) chosen.count_is ∙ ap (λ (ls : List Link). put_number ls link (read_on side n l)) t.links in
     subst (λ (found : Option Link). Answers r (or_fault (read_refusal side count link found) (at_end (feed_refusal link p.endpoint))) (ReadBytes (length bytes)) (StandsForWorld (placed s peers links) (reads side link count found w))) (sym (chosen_of side link count bytes l s w t chosen))
     (there_then (at_end (feed_refusal link p.endpoint)) (if_many count (length (readable side l))) r (ReadBytes (length bytes)) _ chosen.there
     (subst (λ (x : World). Answers r (at_end (feed_refusal link p.endpoint)) (ReadBytes (length bytes)) (StandsForWorld (placed s peers links) x)) (sym (called_over side w (feed link (take n (readable side l)) w.now) ls))
@@ -151,9 +150,11 @@ cut_answers link s peers links same free more w t =
 pub link_answers : (s : WorldState) (links : List Link) → links ≡ s.links ++ new_link ∷ [] → (n : ℕ) → n ≡ length links → (w : World) → StandsForWorld s w
     → (refusal w LinkMade ≡ None) × (Linked n ≡ effect w LinkMade) × StandsForWorld (record { moment = s.moment; a = s.a; b = s.b; links = links }) (happens LinkMade w)
 unfolding refusal effect happens
-link_answers s links is n count w t =
-    (refl, ap Linked (count ∙ ap length is ∙ length-append s.links (new_link ∷ []) ∙ ap (λ (ls : List Link). length ls + 1) t.links),
-    record { moment = t.moment; a = t.a; b = t.b; links = is ∙ ap (λ (ls : List Link). ls ++ new_link ∷ []) t.links })
+link_answers s links is n count w t = (
+  refl,
+  ap Linked (count ∙ ap length is ∙ length-append s.links (new_link ∷ []) ∙ ap (λ (ls : List Link). length ls + 1) t.links),
+  record { moment = t.moment; a = t.a; b = t.b; links = is ∙ ap (λ (ls : List Link). ls ++ new_link ∷ []) t.links },
+)
 
 pub at_answers : (s : WorldState) (moment now : ℕ) → moment ≡ max s.moment now → (w : World) → StandsForWorld s w
     → (refusal w (At now) ≡ None) × (Done ≡ effect w (At now)) × StandsForWorld (record { moment = moment; a = s.a; b = s.b; links = s.links }) (happens (At now) w)
@@ -185,11 +186,13 @@ module _ (side : Side) (count : Count) (s : WorldState) (out : List ℕ) (is : o
       let written : bytes ≡ take m (shown e) = bytes_are ∙ ap (λ (k : ℕ). take k out) moved ∙ ap (λ (b : List ℕ). take m b) shows in
       let ls : List Link = links_written side (take m (shown e)) e.epoch (at_number w.links e.epoch) w.links in
       let more' : links ≡ ls = more ∙ ap (λ (b : List ℕ). links_written side b present (at_number s.links present) s.links) written
-          ∙ ap (λ (k : ℕ). links_written side (take m (shown e)) k (at_number s.links k) s.links) number
-          ∙ ap (λ (xs : List Link). links_written side (take m (shown e)) e.epoch (at_number xs e.epoch) xs) t.links in
-      (ap (λ (b : List ℕ). if_many count (length b)) (sym shows) ∙ free, ap Wrote written,
-      subst (λ (x : World). StandsForWorld (placed s peers links) x) (sym (called_over side w (wrote m) ls))
-      (stands_placed side s peers (called (wrote m) (peer side w)) links ls w t (subst (λ (k : ℕ). StandsForPeer (side_of side peers) (called (wrote k) (peer side w))) moved (does (peer side w) (stands_peer side s w t))) there more'))
+      ∙ ap (λ (k : ℕ). links_written side (take m (shown e)) k (at_number s.links k) s.links) number
+      ∙ ap (λ (xs : List Link). links_written side (take m (shown e)) e.epoch (at_number xs e.epoch) xs) t.links in (
+        ap (λ (b : List ℕ). if_many count (length b)) (sym shows) ∙ free,
+        ap Wrote written,
+        subst (λ (x : World). StandsForWorld (placed s peers links) x) (sym (called_over side w (wrote m) ls))
+            (stands_placed side s peers (called (wrote m) (peer side w)) links ls w t (subst (λ (k : ℕ). StandsForPeer (side_of side peers) (called (wrote k) (peer side w))) moved (does (peer side w) (stands_peer side s w t))) there more'),
+      )
 
 -- what an event does is what holds after it
 after_free : (event : Event) (w : World) → refusal w event ≡ None → happens event w ≡ after event w

@@ -6,7 +6,11 @@
 mod link;
 mod peer;
 mod peers;
+pub mod run;
+#[cfg(test)]
+mod tests;
 pub mod world;
 
 pub use ra_model::{Effect, EventFault};
+pub use run::{RunFault, run_world, run_world_from};
 pub use world::World;

@@ -153,12 +153,10 @@ impl Link {
         ensures ok { OnOk result (self.new ≡ written_to side bytes.now self.old) }
         ensures err { OnErr result (self.new ≡ self.old) }
     {
-        if self.is_cut {
-            return Ok(());
-        }
-        match side {
-            Side::A => self.to_a.write(bytes),
-            Side::B => self.to_b.write(bytes),
+        match (self.is_cut, side) {
+            (true, _) => Ok(()),
+            (false, Side::A) => self.to_a.write(bytes),
+            (false, Side::B) => self.to_b.write(bytes),
         }
     }
 
@@ -170,7 +168,12 @@ impl Link {
 }
 
 /// The bytes of a link that a side reads.
-pub(crate) fn chosen(links: &[Link], side: Side, link: u64, count: Count) -> Result<&[u8], EventFault>
+pub(crate) fn chosen(
+    links: &[Link],
+    side: Side,
+    link: u64,
+    count: Count,
+) -> Result<&[u8], EventFault>
     ensures refused { RefusedBy result (read_refusal side count link (at_number links.now link)) }
     ensures found { IfOk result (λ bytes. (l : AbstractLink) × IsChosen links.now side count link bytes.now l) }
 {
@@ -191,7 +194,12 @@ pub(crate) fn read_link(links: &mut [Link], side: Side, link: u64, n: usize)
 }
 
 /// Bytes are written on a link by a side, where there is such a link.
-pub(crate) fn write_link(links: &mut [Link], side: Side, link: u64, bytes: &[u8]) -> Result<(), NoMemory>
+pub(crate) fn write_link(
+    links: &mut [Link],
+    side: Side,
+    link: u64,
+    bytes: &[u8],
+) -> Result<(), NoMemory>
     ensures ok { OnOk result (links.new ≡ links_written side bytes.now link (at_number links.old link) links.old) }
     ensures err { OnErr result (links.new ≡ links.old) }
 {

@@ -159,7 +159,12 @@ impl Peer {
     }
 
     /// A link begins, with the bytes that are read of it.
-    pub(crate) fn begin(&mut self, link: u64, chunk: &[u8], now: Moment) -> Result<Effect, EventFault>
+    pub(crate) fn begin(
+        &mut self,
+        link: u64,
+        chunk: &[u8],
+        now: Moment,
+    ) -> Result<Effect, EventFault>
         ensures does { (p : AbstractPeer) → StandsForPeer self.old p → Answers result (at_end (begin_refusal link p.endpoint)) Effect.Done (StandsForPeer self.new (begun link chunk.now now p)) }
         ensures err { OnErr result (self.new ≡ self.old) }
     {
@@ -167,7 +172,12 @@ impl Peer {
     }
 
     /// Bytes of a link are read.
-    pub(crate) fn feed(&mut self, link: u64, piece: &[u8], now: Moment) -> Result<Effect, EventFault>
+    pub(crate) fn feed(
+        &mut self,
+        link: u64,
+        piece: &[u8],
+        now: Moment,
+    ) -> Result<Effect, EventFault>
         ensures does { (p : AbstractPeer) → StandsForPeer self.old p → Answers result (at_end (feed_refusal link p.endpoint)) (Effect.Read (length piece.now)) (StandsForPeer self.new (called (feed link piece.now now) p)) }
         ensures err { OnErr result (self.new ≡ self.old) }
     {

@@ -53,7 +53,12 @@ impl Peers {
     }
 
     /// An event of one end alone.
-    pub(crate) fn apply(&mut self, side: Side, event: &Event, now: Moment) -> Result<Effect, EventFault>
+    pub(crate) fn apply(
+        &mut self,
+        side: Side,
+        event: &Event,
+        now: Moment,
+    ) -> Result<Effect, EventFault>
         ensures does { (p : AbstractPeer) → StandsForPeer (side_of side self.old) p → Answers result (end_refusal event.now p) (end_effect event.now now p) (StandsForPeer (side_of side self.new) (end_happens event.now now p)) }
         ensures other { side_of (other side) self.new ≡ side_of (other side) self.old }
         ensures err { OnErr result (self.new ≡ self.old) }
@@ -65,7 +70,13 @@ impl Peers {
     }
 
     /// A link begins at a side.
-    pub(crate) fn begin(&mut self, side: Side, link: u64, chunk: &[u8], now: Moment) -> Result<Effect, EventFault>
+    pub(crate) fn begin(
+        &mut self,
+        side: Side,
+        link: u64,
+        chunk: &[u8],
+        now: Moment,
+    ) -> Result<Effect, EventFault>
         ensures does { (p : AbstractPeer) → StandsForPeer (side_of side self.old) p → Answers result (at_end (begin_refusal link p.endpoint)) Effect.Done (StandsForPeer (side_of side self.new) (begun link chunk.now now p)) }
         ensures other { side_of (other side) self.new ≡ side_of (other side) self.old }
         ensures err { OnErr result (self.new ≡ self.old) }
@@ -77,7 +88,13 @@ impl Peers {
     }
 
     /// Bytes of a link are read at a side.
-    pub(crate) fn feed(&mut self, side: Side, link: u64, piece: &[u8], now: Moment) -> Result<Effect, EventFault>
+    pub(crate) fn feed(
+        &mut self,
+        side: Side,
+        link: u64,
+        piece: &[u8],
+        now: Moment,
+    ) -> Result<Effect, EventFault>
         ensures does { (p : AbstractPeer) → StandsForPeer (side_of side self.old) p → Answers result (at_end (feed_refusal link p.endpoint)) (Effect.Read (length piece.now)) (StandsForPeer (side_of side self.new) (called (feed link piece.now now) p)) }
         ensures other { side_of (other side) self.new ≡ side_of (other side) self.old }
         ensures err { OnErr result (self.new ≡ self.old) }

@@ -1,10 +1,14 @@
 //! The world: two endpoints, the links between them, and the moment.
-ghost use Rattle.std.specs.Prelude.{◌≡◌, ◌<◌, ◌^◌, max, length, OnOk, OnErr, IfOk, IsOk};
+ghost use Rattle.std.specs.Prelude.{◌≡◌, ◌<◌, ◌≤◌, ◌^◌, ◌++◌, ◌∷◌, [], ℕ, List, max, length, OnOk, OnErr, IfOk, IsOk};
 ghost use Rattle.ra_model.specs.Worlds.{World as AbstractWorld, new_world, peer, with_peer};
-ghost use Rattle.ra_model.specs.Events.{happens, after, effect};
+ghost use Rattle.ra_base.specs.declared.event.Event.{Event as AbstractEvent};
+ghost use Rattle.ra_base.specs.declared.event.Side.{Side as AbstractSide};
+ghost use Rattle.ra_model.specs.Frames.{last_id};
+ghost use Rattle.ra_model.specs.Events.{happens, after, effect, run};
 ghost use Rattle.ra_model.specs.Refusals.{refusal};
 ghost use Rattle.ra_world.specs.EndEvents.{end_refusal, end_happens, end_effect};
 ghost use Rattle.ra_world.specs.Outcomes.{Answers, RefusedBy};
+ghost use Rattle.ra_world.specs.PairedWorlds.{IsPaired, TakesNothingBack};
 ghost use Rattle.ra_world.specs.WorldStates.{StandsForWorld, IsEvent, peer_of};
 
 use crate::link::{Link, chosen, cut_link, read_link, taken_of, write_link};
@@ -24,6 +28,7 @@ pub struct World {
 }
 
 impl Model for World {
+    ghost use Rattle.ra_world.specs.PairedWorlds.{IsPaired, TakesNothingBack};
     ghost use Rattle.ra_world.specs.WorldStates.{WorldState};
 
     ghost Value = { WorldState };
@@ -199,6 +204,12 @@ impl World {
         ensures effect { IfOk result (λ answer. (w : AbstractWorld) → StandsForWorld self.old w → answer ≡ effect w event.now) }
         ensures refused { (w : AbstractWorld) → StandsForWorld self.old w → RefusedBy result (refusal w event.now) }
         ensures err { OnErr result (self.new ≡ self.old) }
+        // in a run, what was heard is the beginning of what the other side said, and so on
+        ensures pair { OnOk result ((base : ℕ) (events : List AbstractEvent) → base ≤ last_id → StandsForWorld self.old (run events (new_world base))
+            → IsPaired base self.new (run (events ++ event.now ∷ []) (new_world base))) }
+        // and nothing is taken back
+        ensures rising { OnOk result ((base : ℕ) (events : List AbstractEvent) → StandsForWorld self.old (run events (new_world base)) → (side : AbstractSide)
+            → TakesNothingBack (peer_of side self.old) (peer_of side self.new)) }
     {
         self.step(event)
     }

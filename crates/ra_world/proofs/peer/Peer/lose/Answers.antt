@@ -1,7 +1,3 @@
-use Rattle.std.proofs.Common.{ap, sym, ◌∙◌, subst, ℕ}
-use Rattle.ra_model.specs.Endpoints.{Endpoint}
-use Rattle.ra_model.specs.Calls.{lose}
-use Rattle.ra_model.specs.EndpointStates.{StandsFor}
 use Rattle.ra_world.proofs.PeerCalls.{lose_stands}
 use Rattle.ra_world.proofs.peer.Peer.lose.Goals as goal
 

@@ -1,8 +1,6 @@
-use Rattle.std.proofs.Common.{◌≡◌, ◌∙◌, sym, subst, refl, ap, Err, Ok, List, length, arith}
+use Rattle.std.proofs.Common.{◌≡◌, ◌∙◌, refl, ap, Err, Ok, length, arith}
 use Rattle.std.proofs.lemmas.List.{with_items_is}
 use Rattle.std.proofs.lemmas.Result.{err_from_is_err_and}
-use Rattle.ra_model.specs.Links.{Link, at_number, put_number, read_on}
-use Rattle.ra_world.specs.Chosen.{IsChosen, HasUnread}
 use Rattle.ra_world.proofs.WorldEvents.{read_does, read_refused, has_unread}
 use Rattle.ra_world.proofs.world.World.read.Goals as goal
 

@@ -1,9 +1,6 @@
-use Rattle.std.proofs.Common.{◌≡◌, ◌∙◌, ap, sym, take, List, ℕ, length, arith}
+use Rattle.std.proofs.Common.{◌≡◌, ◌∙◌, ap, length, arith}
 use Rattle.std.proofs.lemmas.Result.{err_from_is_err_and}
 use Rattle.std.proofs.lemmas.List.{with_items_is}
-use Rattle.ra_model.specs.EndpointStates.{EndpointState}
-use Rattle.ra_model.specs.Links.{Link, at_number}
-use Rattle.ra_model.specs.Events.{links_written}
 use Rattle.ra_proto.specs.Shown.{shown_of}
 use Rattle.ra_world.specs.WorldStates.{PeerState}
 use Rattle.ra_world.proofs.WorldEvents.{write_answers, write_refused}
