@@ -12,6 +12,8 @@ mod receiver;
 mod replay;
 mod replay_lines;
 mod report;
+#[cfg(test)]
+mod script_tests;
 mod soak;
 #[cfg(test)]
 mod tests;
