@@ -1,6 +1,6 @@
 -- What the calls of a peer in memory stand for.
-use Rattle.std.proofs.Common.{◌≡◌, ℕ, Bool, Option, Some, None, true, not, ◌+◌, [], ◌∷◌, ◌++◌, Result, Ok, Err, OnOk, List, refl, ap, sym, ◌∙◌, subst, cond, ◌&&◌, leb, length, eqb}
-use Rattle.std.specs.Prelude.{◌≢◌}
+use Rattle.std.proofs.Common.{◌≡◌, ℕ, Bool, Option, Some, None, true, false, not, ◌+◌, [], ◌∷◌, ◌++◌, Result, Ok, Err, OnOk, List, refl, ap, sym, ◌∙◌, subst, cond, ◌&&◌, leb, length, eqb}
+use Rattle.std.specs.Prelude.{◌≢◌, suc, option_map}
 use Rattle.std.proofs.lemmas.Bool.{cond_both}
 use Rattle.std.proofs.lemmas.List.{map-append}
 use Rattle.ra_base.specs.declared.event.Side.{Side}
@@ -19,8 +19,11 @@ use Rattle.ra_model.specs.Views.{called}
 use Rattle.ra_model.specs.Calls.{rewritten, say, said_now, dated, moment, can_say, finish, control, ask_pause, ask_resume, tick, times_out, lose, leave, wrote}
 use Rattle.ra_model.specs.Refusals.{at_end, say_refusal, say_fault, take_refusal, take_fault}
 use Rattle.ra_model.specs.declared.session.Up.{Up as Delivery}
-use Rattle.ra_model.specs.Taking.{take_frame, delivery, took, next_frame, passed}
-use Rattle.ra_model.specs.FrameKinds.{frame_kind}
+use Rattle.ra_model.specs.declared.session.Up.TheVariants.{Message, Control as ControlBody, Quiet, Ended as Over}
+use Rattle.ra_model.specs.FirstFrame.{first_frame}
+use Rattle.ra_model.specs.Taking.{take_frame, delivery, delivery_of, took, next_frame, passed}
+use Rattle.ra_model.specs.FrameKinds.{FrameKind, frame_kind}
+use Rattle.ra_model.specs.FrameKinds.FrameKind.{Regular, Control as ControlKind, Disconnect, ReplayRequest, Pause as PauseKind, Resume as ResumeKind, Other}
 use Rattle.ra_model.specs.Events.{taken, handed_up, heard_with}
 use Rattle.ra_model.proofs.Takes.{messages_came}
 use Rattle.ra_model.proofs.Calls.{messages_rewritten}
@@ -138,6 +141,54 @@ take_answers s x t up heard now same more free stands handed p h =
         heard = more ∙ ap (λ (ms : List (List ℕ)). heard_with up ms) h.heard ∙ ap (λ (d : Option Delivery). heard_with d p.heard) gives;
       },
     )
+
+-- what else is handed up is not heard
+pub unheard : (up : Delivery) (heard before : List (List ℕ)) → ((id : ℕ) (body : List ℕ) → up ≡ Message id body → ⊥) → heard ≡ before → heard ≡ heard_with (Some up) before
+unheard (Message id body) heard before other same = absurd (other id body refl)
+unheard (ControlBody body) heard before other same = same
+unheard Quiet heard before other same = same
+unheard Over heard before other same = same
+
+-- ---- the body of a message that is handed up is that of the next frame
+
+regular_body : (b : Bool) (id : ℕ) (body : List ℕ) (f : Frame) → Message id body ≡ cond b (Message f.id f.body) Quiet → f.body ≡ body
+regular_body true id body f is = cc
+regular_body false id body f is = absurd cc
+
+handed_body : (k : FrameKind) (id : ℕ) (body : List ℕ) (f : Frame) (e : Endpoint) → Message id body ≡ delivery_of k f e → f.body ≡ body
+handed_body Regular id body f e is = regular_body (eqb f.id (suc e.received)) id body f is
+handed_body ControlKind id body f e is = absurd cc
+handed_body Disconnect id body f e is = absurd cc
+handed_body ReplayRequest id body f e is = absurd cc
+handed_body PauseKind id body f e is = absurd cc
+handed_body ResumeKind id body f e is = absurd cc
+handed_body Other id body f e is = absurd cc
+
+some_same : (x y : Delivery) → Some x ≡ Some y → x ≡ y
+some_same x y is = cc
+
+found_body : (found : Option (Frame × List ℕ)) (id : ℕ) (kept body : List ℕ) (e : Endpoint) → ((f : Frame) (rest : List ℕ) → found ≡ Some (f, rest) → kept ≡ f.body)
+    → Some (Message id body) ≡ option_map (λ (next : Frame × List ℕ). delivery_of (frame_kind next.0.kind) next.0 e) found → kept ≡ body
+found_body None id kept body e is handed = absurd cc
+found_body (Some next) id kept body e is handed = is next.0 next.1 refl ∙ handed_body (frame_kind next.0.kind) id body next.0 e (some_same _ _ handed)
+
+linked_body : (b : Bool) (found : Option (Frame × List ℕ)) (id : ℕ) (kept body : List ℕ) (e : Endpoint) → ((f : Frame) (rest : List ℕ) → found ≡ Some (f, rest) → kept ≡ f.body)
+    → Some (Message id body) ≡ option_map (λ (next : Frame × List ℕ). delivery_of (frame_kind next.0.kind) next.0 e) (cond b found None) → kept ≡ body
+linked_body true found id kept body e is handed = found_body found id kept body e is handed
+linked_body false found id kept body e is handed = absurd cc
+
+message_body : (id : ℕ) (kept body : List ℕ) (e : Endpoint) → ((f : Frame) (rest : List ℕ) → first_frame e.unread ≡ Some (f, rest) → kept ≡ f.body) → Some (Message id body) ≡ delivery e → kept ≡ body
+unfolding delivery
+message_body id kept body e is handed = linked_body (is_linked e.phase) (first_frame e.unread) id kept body e is handed
+
+pub message_answers : (s : PeerState) (t : EndpointState) (id : ℕ) (body kept : List ℕ) (heard : List (List ℕ)) (now : ℕ) → heard ≡ s.heard ++ kept ∷ []
+    → ((f : Frame) (rest : List ℕ) → first_frame s.endpoint.unread ≡ Some (f, rest) → kept ≡ f.body) → take_fault s.endpoint.phase s.endpoint.unread ≡ None
+    → ((e : Endpoint) → StandsFor s.endpoint e → StandsFor t (take_frame now e)) → ((e : Endpoint) → StandsFor s.endpoint e → Some (Message id body) ≡ delivery e) → (p : Peer) → StandsForPeer s p
+    → (at_end (take_refusal p.endpoint) ≡ None) × (handed_up (Some (Message id body)) ≡ handed_up (delivery p.endpoint)) × StandsForPeer (record { endpoint = t; said = s.said; heard = heard }) (taken now p)
+message_answers s t id body kept heard now more copied free stands handed p h =
+    let unread : p.endpoint.unread ≡ s.endpoint.unread = ap (λ (e : Endpoint). e.unread) h.endpoint.same in
+    let same : kept ≡ body = message_body id kept body p.endpoint (λ f rest is. copied f rest (ap first_frame (sym unread) ∙ is)) (handed p.endpoint h.endpoint) in
+    take_answers s s.endpoint t (Some (Message id body)) heard now refl (more ∙ ap (λ (x : List ℕ). s.heard ++ x ∷ []) same) free stands handed p h
 
 pub lose_stands : (s : PeerState) (t : EndpointState) (present : ℕ) → present ≡ s.endpoint.epoch → ((e : Endpoint) → StandsFor s.endpoint e → StandsFor t (lose present e)) → (p : Peer) → StandsForPeer s p
     → StandsForPeer (record { endpoint = t; said = s.said; heard = s.heard }) (called (lose p.endpoint.epoch) p)

@@ -1,8 +1,8 @@
 //! An endpoint with the messages that it said and heard.
-ghost use Rattle.std.specs.Prelude.{◌≡◌, ◌≤◌, ◌+◌, length, drop, Some, None, OnErr, OnOk, IfOk};
+ghost use Rattle.std.specs.Prelude.{◌≡◌, ◌≤◌, ◌+◌, length, drop, Some, None, OnErr};
 ghost use Rattle.ra_model.specs.Calls.{say, feed, wrote, tick, times_out, lose};
 ghost use Rattle.ra_model.specs.Worlds.{Peer as AbstractPeer};
-ghost use Rattle.ra_model.specs.Events.{begun, taken, handed_up, heard_with};
+ghost use Rattle.ra_model.specs.Events.{begun, taken, handed_up};
 ghost use Rattle.ra_model.specs.Taking.{delivery};
 ghost use Rattle.ra_model.specs.Endpoints.{sent};
 ghost use Rattle.ra_model.specs.Views.{new_peer, called};
@@ -12,7 +12,7 @@ ghost use Rattle.ra_world.specs.EndEvents.{end_refusal, end_happens, end_effect}
 ghost use Rattle.ra_world.specs.Outcomes.{Answers, event_fault, done_of};
 ghost use Rattle.ra_world.specs.WorldStates.{StandsForPeer};
 
-use ra_base::{Event, Message, Moment, NoMemory};
+use ra_base::{Event, Message, Moment};
 use ra_model::{Effect, EndFault, EventFault, Up};
 use ra_proto::Endpoint;
 use std::alloc::Global;
@@ -35,21 +35,6 @@ fn done<T: Drop>(called: Result<T, EndFault>) -> Result<Effect, EventFault>
     match called {
         Ok(_) => Ok(Effect::Done),
         Err(fault) => Err(fault_of(fault)),
-    }
-}
-
-/// Adds a message that is handed up to those that were heard.
-fn hear(heard: &mut Vec<Message>, up: &Up) -> Result<(), NoMemory>
-    ensures ok { OnOk result (heard.new.items ≡ heard_with (Some up.now) heard.old.items) }
-    ensures err { OnErr result (heard.new.items ≡ heard.old.items) }
-{
-    match up {
-        Up::Message { id: _, body } => {
-            let copy = Message::copy(*heard.allocator(), body.as_slice())?;
-            heard.push(copy)?;
-            Ok(())
-        }
-        Up::Control { body: _ } | Up::Quiet | Up::Ended => Ok(()),
     }
 }
 
@@ -101,15 +86,14 @@ impl Peer {
         ensures does { (p : AbstractPeer) → StandsForPeer self.old p → Answers result (at_end (take_refusal p.endpoint)) (handed_up (delivery p.endpoint)) (StandsForPeer self.new (taken now p)) }
         ensures err { OnErr result (self.new ≡ self.old) }
     {
-        let mut endpoint = self.endpoint.copy(*self.heard.allocator())?;
-        match endpoint.next(now) {
-            Ok(None) => {
-                self.endpoint = endpoint;
-                Ok(Effect::Nothing)
-            }
+        let body = self.endpoint.next_body()?;
+        self.heard.reserve(1)?;
+        match self.endpoint.next(now) {
+            Ok(None) => Ok(Effect::Nothing),
             Ok(Some(up)) => {
-                hear(&mut self.heard, &up)?;
-                self.endpoint = endpoint;
+                if let Up::Message { id: _, body: _ } = &up {
+                    self.heard.push(body).unwrap();
+                }
                 Ok(Effect::Up { up })
             }
             Err(fault) => Err(fault_of(fault)),
