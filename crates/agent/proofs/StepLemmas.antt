@@ -118,13 +118,13 @@ on_frame_unread Other f now e = omega arith
 
 first_shorter : (e : Endpoint) (next : Frame × List ℕ) → next_frame e ≡ Some next → length next.1 < length e.unread
 first_shorter e next is = shorter (is_linked e.phase) is
-    where
-      shorter : (b : Bool) → cond b (first_frame e.unread) None ≡ Some next → length next.1 < length e.unread
-      shorter b h = elim b as (λ x. cond x (first_frame e.unread) None ≡ Some next → length next.1 < length e.unread) [
-        | true ↦ λ found. (let len : length e.unread ≡ length (frame_bytes next.0) + length next.1 = found_shorter e.unread next.0 next.1 found in
+  where
+    shorter : (b : Bool) → cond b (first_frame e.unread) None ≡ Some next → length next.1 < length e.unread
+    shorter b h = elim b as (λ x. cond x (first_frame e.unread) None ≡ Some next → length next.1 < length e.unread) [
+      | true ↦ λ found. (let len : length e.unread ≡ length (frame_bytes next.0) + length next.1 = found_shorter e.unread next.0 next.1 found in
           let some : 0 < length (frame_bytes next.0) = frame_bytes_some next.0 in omega arith)
-        | false ↦ λ found. absurd cc
-      ] h
+      | false ↦ λ found. absurd cc
+    ] h
 
 took_shorter : (e : Endpoint) (found : Option (Frame × List ℕ)) (now : ℕ) → next_frame e ≡ found → (up : Delivery) → option_map (λ (next : Frame × List ℕ). delivery_of (frame_kind next.0.kind) next.0 e) found ≡ Some up
     → length (took found now e).unread < length e.unread

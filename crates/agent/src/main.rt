@@ -20,8 +20,8 @@ mod tests;
 
 use plain::run_plain;
 use ra_ports::{StdSink, StdSource};
-use std::process::ExitCode;
 use std::env;
+use std::process::ExitCode;
 
 /// The words of the command line, without the program's name; none where they are no text.
 fn words(rt: &(impl env::Env + AllocGlobal)) -> Vec<String> {

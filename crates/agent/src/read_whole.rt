@@ -20,7 +20,12 @@ pub enum Input {
 }
 
 /// Reads an input by this buffer.
-fn read_into<S: Source>(alloc: Global, source: &mut S, buffer: &mut [u8], limit: usize) -> Result<Input, Fault>
+fn read_into<S: Source>(
+    alloc: Global,
+    source: &mut S,
+    buffer: &mut [u8],
+    limit: usize,
+) -> Result<Input, Fault>
     requires room { 0 < length buffer.old }
     requires limit { limit < 2 ^ 32 }
     ensures input { IfOk result (λ input. IsInput limit input (S.left source.old) (S.left source.new)) }

@@ -12,7 +12,9 @@ ghost use Rattle.agent.specs.Stepping.{IsLine, Steps, Takes, Adds, is_frame};
 ghost use Rattle.agent.specs.Replay.{line_step, event_step, drain_step, side_line, world_line, lines_report, base_of, script_report, input_report, replay_report};
 
 use crate::read_whole::{Input, read_whole};
-use crate::replay_lines::{push_base, push_counts, push_effect, push_fault, push_script_over, push_unread, side_of};
+use crate::replay_lines::{
+    push_base, push_counts, push_effect, push_fault, push_script_over, push_unread, side_of,
+};
 use crate::report::{Ending, Fault};
 use ra_base::{Event, NoMemory, Side};
 use ra_model::{Effect, EventFault};
@@ -25,7 +27,12 @@ use std::alloc::Global;
 const SCRIPT_LIMIT: usize = 67_108_864;
 
 /// Applies an event, and adds its line.
-fn step_event(alloc: Global, world: &mut World, event: &Event, text: &mut Vec<u8>) -> Result<(), EventFault>
+fn step_event(
+    alloc: Global,
+    world: &mut World,
+    event: &Event,
+    text: &mut Vec<u8>,
+) -> Result<(), EventFault>
     requires { IsEvent event.now }
     ensures { (w : AbstractWorld) → StandsForWorld world.old w → Steps result world.new text.old.items text.new.items (event_step event.now w) }
 {
@@ -45,7 +52,12 @@ fn is_frame(effect: &Effect) -> bool
 }
 
 /// Takes one frame, and adds its line. It answers whether there was one.
-fn take_one(alloc: Global, world: &mut World, side: Side, text: &mut Vec<u8>) -> Result<bool, EventFault>
+fn take_one(
+    alloc: Global,
+    world: &mut World,
+    side: Side,
+    text: &mut Vec<u8>,
+) -> Result<bool, EventFault>
     ensures { (w : AbstractWorld) → StandsForWorld world.old w → Takes result side world.new text.old.items text.new.items w }
 {
     let effect = world.apply(&Event::Take { side })?;
@@ -67,7 +79,12 @@ fn drain(alloc: Global, world: &mut World, side: Side, text: &mut Vec<u8>) -> Re
 }
 
 /// Runs a line, and adds what it prints.
-pub fn step_line(alloc: Global, world: &mut World, line: &Line, text: &mut Vec<u8>) -> Result<(), EventFault>
+pub fn step_line(
+    alloc: Global,
+    world: &mut World,
+    line: &Line,
+    text: &mut Vec<u8>,
+) -> Result<(), EventFault>
     requires { IsLine line.now }
     ensures { (w : AbstractWorld) → StandsForWorld world.old w → Steps result world.new text.old.items text.new.items (line_step line.now w) }
 {
@@ -109,7 +126,9 @@ fn push_refused(text: &mut Vec<u8>, n: u64, fault: EventFault) -> Result<Ending,
 {
     match fault {
         EventFault::NoMemory => Err(NoMemory),
-        EventFault::NoSuchLink { link: _ } | EventFault::TooMany { asked: _, there: _ } | EventFault::End { fault: _ } => {
+        EventFault::NoSuchLink { link: _ }
+        | EventFault::TooMany { asked: _, there: _ }
+        | EventFault::End { fault: _ } => {
             push_fault(text, n, fault)?;
             Ok(Ending::Refused)
         }
@@ -117,7 +136,12 @@ fn push_refused(text: &mut Vec<u8>, n: u64, fault: EventFault) -> Result<Ending,
 }
 
 /// Runs lines in a new world, and adds what they print.
-fn run_lines(alloc: Global, base: u64, lines: &[Line], text: &mut Vec<u8>) -> Result<Ending, NoMemory>
+fn run_lines(
+    alloc: Global,
+    base: u64,
+    lines: &[Line],
+    text: &mut Vec<u8>,
+) -> Result<Ending, NoMemory>
     requires { AllByRecursion IsLine lines.now }
     ensures { IfOk result (λ ending. Adds (lines_report 1 lines.now (new_world base)) text.old.items text.new.items ending) }
 {
@@ -170,7 +194,11 @@ fn run_input(alloc: Global, input: &Input, text: &mut Vec<u8>) -> Result<Ending,
 }
 
 /// Reads a script, prints what its lines do, and answers how the run ended. All is printed at the end.
-pub fn replay<S: Source, K: Sink>(alloc: Global, source: &mut S, sink: &mut K) -> Result<Ending, Fault>
+pub fn replay<S: Source, K: Sink>(
+    alloc: Global,
+    source: &mut S,
+    sink: &mut K,
+) -> Result<Ending, Fault>
     // The whole output, and the input read to its end where it is done.
     ensures done { IfOk result (λ ending. Told (S.left source.old) (K.taken sink.old) (λ input before.
         IsReported replay_report input before ending (S.left source.new) (K.taken sink.new))) }

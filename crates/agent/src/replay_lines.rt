@@ -67,7 +67,13 @@ fn push_sided_line(text: &mut Vec<u8>, word: &str, side: Side) -> Result<(), NoM
 }
 
 /// Adds the line of a message that was handed up.
-fn push_message(alloc: Global, text: &mut Vec<u8>, side: Side, id: u64, body: &[u8]) -> Result<(), NoMemory>
+fn push_message(
+    alloc: Global,
+    text: &mut Vec<u8>,
+    side: Side,
+    id: u64,
+    body: &[u8],
+) -> Result<(), NoMemory>
     ensures { OnOk result (text.new.items ≡ text.old.items ++ line (codes "up " ++ side_text side ++ codes " " ++ decimal id ++ codes " " ++ hex_of body.now)) }
 {
     push_sided(text, "up ", side)?;
@@ -141,7 +147,11 @@ pub fn side_of(event: &Event) -> Side
     ensures { result ≡ side_of event.now }
 {
     match event {
-        Event::Begin { side, link: _, count: _ } => *side,
+        Event::Begin {
+            side,
+            link: _,
+            count: _,
+        } => *side,
         Event::Finish { side } => *side,
         Event::Say { side, body: _ } => *side,
         Event::Control { side, body: _ } => *side,
@@ -149,7 +159,11 @@ pub fn side_of(event: &Event) -> Side
         Event::Resume { side } => *side,
         Event::Leave { side } => *side,
         Event::Write { side, count: _ } => *side,
-        Event::Read { side, link: _, count: _ } => *side,
+        Event::Read {
+            side,
+            link: _,
+            count: _,
+        } => *side,
         Event::Take { side } => *side,
         Event::Tick { side } => *side,
         Event::Lose { side } => *side,
@@ -158,7 +172,12 @@ pub fn side_of(event: &Event) -> Side
 }
 
 /// Adds the line of an event that was applied.
-pub fn push_effect(alloc: Global, text: &mut Vec<u8>, side: Side, effect: &Effect) -> Result<(), NoMemory>
+pub fn push_effect(
+    alloc: Global,
+    text: &mut Vec<u8>,
+    side: Side,
+    effect: &Effect,
+) -> Result<(), NoMemory>
     ensures { OnOk result (text.new.items ≡ text.old.items ++ effect_line side effect.now) }
 {
     match effect {
@@ -261,7 +280,13 @@ pub fn push_sums(text: &mut Vec<u8>, side: Side, said: u64, heard: u64) -> Resul
 }
 
 /// Adds what a side said, heard, and has still to be acknowledged.
-pub fn push_counts(text: &mut Vec<u8>, side: Side, said: u64, heard: u64, owed: u64) -> Result<(), NoMemory>
+pub fn push_counts(
+    text: &mut Vec<u8>,
+    side: Side,
+    said: u64,
+    heard: u64,
+    owed: u64,
+) -> Result<(), NoMemory>
     ensures { OnOk result (text.new.items ≡ text.old.items ++ side_counts side said heard owed) }
 {
     push_sums(text, side, said, heard)?;

@@ -29,7 +29,11 @@ fn prints(
 
 /// Scripts, what they print, and the status.
 const SCRIPTS: [(&[u8], &[u8], u8); 11] = [
-    (b"", b"end A said=0 heard=0 owed=0 B said=0 heard=0 owed=0\n", 0),
+    (
+        b"",
+        b"end A said=0 heard=0 owed=0 B said=0 heard=0 owed=0\n",
+        0,
+    ),
     // a message and its answer
     (
         b"link\nbegin A 1 0\nbegin B 1 0\nsay A 6869\nwrite A *\nread B 1 *\ndrain B\nsay B 61\nwrite B *\nread A 1 *\ndrain A\n",

@@ -40,12 +40,19 @@ fn unless_memory(fault: EventFault) -> Result<(), NoMemory>
 {
     match fault {
         EventFault::NoMemory => Err(NoMemory),
-        EventFault::NoSuchLink { link: _ } | EventFault::TooMany { asked: _, there: _ } | EventFault::End { fault: _ } => Ok(()),
+        EventFault::NoSuchLink { link: _ }
+        | EventFault::TooMany { asked: _, there: _ }
+        | EventFault::End { fault: _ } => Ok(()),
     }
 }
 
 /// Runs a line. One that is refused changes nothing.
-fn run_line(alloc: Global, world: &mut World, line: &Line, text: &mut Vec<u8>) -> Result<(), NoMemory>
+fn run_line(
+    alloc: Global,
+    world: &mut World,
+    line: &Line,
+    text: &mut Vec<u8>,
+) -> Result<(), NoMemory>
     requires { IsLine line.now }
     ensures { OnOk result ((w : AbstractWorld) → StandsForWorld world.old w → StandsForWorld world.new (line_step line.now w).world) }
 {
@@ -108,7 +115,10 @@ fn soak_line(alloc: Global, start: u64, steps: u32) -> Result<Vec<u8>, NoMemory>
     let lines = generate(alloc, start, steps)?;
     let world = run_lines(alloc, &lines)?;
     let mut text = Vec::new(alloc);
-    push_summary(&mut text, &summarize(start, steps, lines.len() as u64, &world))?;
+    push_summary(
+        &mut text,
+        &summarize(start, steps, lines.len() as u64, &world),
+    )?;
     Ok(text)
 }
 

@@ -13,8 +13,8 @@ returns-after-up-clause-does c =
     let handed = rw c.in-Ok-Some.field-0-is at c.in-Ok-Some.ensures.handed in
     elim c.match-up.branch [
       | in-Message w ↦ rw (w.self-is, w.in-Message.is, ← c.self.view_is)
-        (message_answers _ _ w.in-Message.id w.in-Message.body c.in_ok-body.body _ c.args.now ((rw w.unwrap.ensures at w.push.ensures.items) ∙ ap (λ (xs : List (List ℕ)). xs ++ c.in_ok-body.body ∷ []) c.in_ok-reserve.ensures.items)
-        c.in_ok-body.ensures c.in-Ok-Some.ensures.refused c.in-Ok-Some.ensures.stands (rw w.in-Message.is at handed))
+          (message_answers _ _ w.in-Message.id w.in-Message.body c.in_ok-body.body _ c.args.now ((rw w.unwrap.ensures at w.push.ensures.items) ∙ ap (λ (xs : List (List ℕ)). xs ++ c.in_ok-body.body ∷ []) c.in_ok-reserve.ensures.items)
+          c.in_ok-body.ensures c.in-Ok-Some.ensures.refused c.in-Ok-Some.ensures.stands (rw w.in-Message.is at handed))
       | in_default w ↦ rw (w.self-is, ← c.self.view_is)
-        (take_answers _ c.self.inside.endpoint _ (Some c.in-Ok-Some.up) _ c.args.now refl (unheard c.in-Ok-Some.up _ _ w.in_default.not-Message c.in_ok-reserve.ensures.items) c.in-Ok-Some.ensures.refused c.in-Ok-Some.ensures.stands handed)
+          (take_answers _ c.self.inside.endpoint _ (Some c.in-Ok-Some.up) _ c.args.now refl (unheard c.in-Ok-Some.up _ _ w.in_default.not-Message c.in_ok-reserve.ensures.items) c.in-Ok-Some.ensures.refused c.in-Ok-Some.ensures.stands handed)
     ]
