@@ -1,7 +1,7 @@
 -- The loop over the whole frames that are there.
 use Rattle.std.proofs.Common.{◌≡◌, ℕ, List, sym, ap, subst, ◌∙◌}
 use Rattle.agent.specs.Receive.{prefixed}
-use Rattle.agent.specs.Progress.{Progress, IsReady, IsWithin, SameOutlook, IsRefused, IsOver, due}
+use Rattle.agent.specs.Progress.{Progress, IsReady, SameOutlook, IsRefused, IsOver, due}
 
 pub record IsDraining (p : Progress) (before : List ℕ) (q : Progress) (after : List ℕ) : Type 0 where
   pub ready : IsReady q

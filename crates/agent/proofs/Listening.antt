@@ -1,16 +1,15 @@
 -- An endpoint that has said nothing is known by its state.
-use Rattle.std.proofs.Common.{◌≡◌, ℕ, ◌+◌, ◌-◌, Bool, true, false, cond, List, [], ◌++◌, length, map, take, drop, refl, sym, ap, subst, ◌∙◌, arith}
-use Rattle.std.specs.Prelude.{Option, Some, Result, Ok, Err, OnOk, not, ◌&&◌, nat_lt, nat_le, zero, suc, ◌==◌, if◌then◌else◌, ◌∷◌}
+use Rattle.std.proofs.Common.{◌≡◌, ℕ, ◌+◌, Bool, true, false, cond, List, [], ◌++◌, length, map, take, drop, refl, sym, ap, subst, ◌∙◌}
+use Rattle.std.specs.Prelude.{Some, Result, Ok, Err, OnOk, not, ◌&&◌, nat_lt, nat_le, zero, suc, ◌==◌, if◌then◌else◌, ◌∷◌}
 use Rattle.std.proofs.Math.Seq.{drop-nil}
 use Rattle.ra_model.specs.declared.frame.Frame.{Frame}
-use Rattle.ra_model.specs.declared.session.Entry.{Entry}
 use Rattle.ra_model.specs.FrameKinds.{FrameKind, frame_kind, replay_request}
 use Rattle.ra_model.specs.FrameKinds.FrameKind.{Regular, Control, Disconnect, ReplayRequest, Pause, Resume, Other}
 use Rattle.ra_model.specs.Frames.{joined}
 use Rattle.ra_model.specs.Timing.{message_heard, asked_lately}
 use Rattle.ra_model.specs.Endpoints.{Endpoint, new_endpoint, SaidMessage, is_linked, is_ended, is_up, shown, owed, numbered, acknowledged_count}
 use Rattle.ra_model.specs.EndpointStates.{EndpointState, StandsFor, with_said}
-use Rattle.ra_model.specs.Calls.{begin, moment, rewritten, replayed, checked, written_at, wrote}
+use Rattle.ra_model.specs.Calls.{begin, moment, rewritten, written_at, wrote}
 use Rattle.ra_model.specs.Taking.{on_frame, passed}
 use Rattle.ra_model.specs.HeardPlaces.{applied}
 use Rattle.agent.specs.Receive.{after_frame, flushed, first_link}

@@ -1,15 +1,13 @@
 -- What is still to be printed, as the unread bytes go.
-use Rattle.std.proofs.Common.{◌≡◌, ℕ, zero, suc, ◌+◌, ◌-◌, ◌<◌, ◌≤◌, Bool, true, false, cond, leb, List, [], ◌∷◌, ◌++◌, length, take, drop, append_assoc, append-nil, length-append, sym, ap, subst, ◌∙◌, refl, arith}
+use Rattle.std.proofs.Common.{◌≡◌, ℕ, zero, suc, ◌+◌, ◌-◌, ◌<◌, ◌≤◌, Bool, true, false, cond, List, [], ◌∷◌, ◌++◌, length, append_assoc, append-nil, length-append, sym, ap, subst, ◌∙◌, refl, arith}
 use Rattle.std.specs.Prelude.{Option, Some, None, Result, IfOk}
 use Rattle.std.proofs.lemmas.Bool.{leb-true, and_parts, cond-true, cond-false}
 use Rattle.std.proofs.lemmas.Result.{IfOk-weaker}
-use Rattle.std.proofs.lemmas.List.{take_all}
 use Rattle.ra_model.specs.declared.frame.Frame.{Frame}
-use Rattle.ra_model.specs.Frames.{frame_bytes, joined, body_limit}
+use Rattle.ra_model.specs.Frames.{frame_bytes, joined}
 use Rattle.ra_model.specs.FirstFrame.{first_frame, is_too_long, stated, is_wide, header_len}
 use Rattle.ra_model.specs.Cutting.{frames_of, rest_of, cut_from, cut_within}
-use Rattle.ra_model.specs.Endpoints.{Endpoint, is_ended, is_linked}
-use Rattle.ra_model.specs.EndpointStates.{EndpointState}
+use Rattle.ra_model.specs.Endpoints.{Endpoint, is_ended}
 use Rattle.ra_model.proofs.Framing.{first_frame_more, header_more}
 use Rattle.ra_model.proofs.Cuts.{found-not_too_long, too_long-more}
 use Rattle.ra_model.proofs.CuttingLemmas.{frames_step, frames_none, found_shorter, frame_bytes_some}

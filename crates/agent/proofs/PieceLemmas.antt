@@ -1,17 +1,16 @@
 -- A piece of the input, up to the limit.
-use Rattle.std.proofs.Common.{◌≡◌, ℕ, ◌+◌, ◌-◌, ◌<◌, ◌≤◌, Bool, true, false, List, [], ◌++◌, length, take, drop, min, append_assoc, length-append, length-take, sym, ap, subst, ◌∙◌, refl, arith, rules, inl, inr}
-use Rattle.std.specs.Prelude.{nat_lt, Some, None, Option, ◌≢◌, ◌⊎◌}
+use Rattle.std.proofs.Common.{◌≡◌, ℕ, ◌+◌, ◌-◌, ◌<◌, ◌≤◌, Bool, true, List, [], ◌++◌, length, take, drop, min, append_assoc, length-append, sym, ap, subst, ◌∙◌, refl, arith, rules, inl, inr}
+use Rattle.std.specs.Prelude.{nat_lt, ◌≢◌, ◌⊎◌}
 use Rattle.std.proofs.Math.Seq.{take-add}
 use Rattle.std.proofs.lemmas.Bool.{cases_lt}
 use Rattle.std.proofs.lemmas.List.{take-append-le, take_all, drop_at}
 use Rattle.ra_model.specs.Cutting.{frames_of, rest_of}
-use Rattle.agent.specs.declared.report.Ending.{Ending}
 use Rattle.agent.specs.declared.report.Ending.TheVariants.{Refused}
 use Rattle.agent.specs.declared.receiver.Turned.{Turned}
 use Rattle.agent.specs.declared.receiver.Turned.TheVariants.{Waiting, Refused as RefusedThere, Ended as EndedThere}
 use Rattle.agent.specs.Lines.{over_line}
-use Rattle.agent.specs.Receive.{Report, prefixed, report, after_end, input_limit}
-use Rattle.agent.specs.Progress.{Progress, IsRefused, IsOver, Drains, Turns, due, due_input, due_after_end, endpoint_of, fed_with}
+use Rattle.agent.specs.Receive.{prefixed, report, after_end, input_limit}
+use Rattle.agent.specs.Progress.{Progress, IsRefused, Drains, Turns, due, due_input, due_after_end, endpoint_of, fed_with}
 use Rattle.agent.proofs.Outlooks.{over_on, ending_with}
 
 -- bytes that came are no longer to come

@@ -1,6 +1,6 @@
 -- The program by its words.
-use Rattle.std.proofs.Common.{◌≡◌, ℕ, List, ◌++◌, take, drop, sym, ap, ◌∙◌, refl}
-use Rattle.std.specs.Prelude.{Option, Some, None, Result, Ok, Err, IfOk, OnErr}
+use Rattle.std.proofs.Common.{◌≡◌, ℕ, List, take, drop, sym, refl}
+use Rattle.std.specs.Prelude.{Option, Some, Result, Ok, Err, IfOk, OnErr}
 use Rattle.std.specs.Io.KnownBytes.{Appends}
 use Rattle.std.proofs.lemmas.List.{take-append-drop}
 use Rattle.ra_ports.specs.Causes.{AppendsFront}
@@ -8,13 +8,12 @@ use Rattle.ra_ports.specs.Texts.{Told, WroteAll, WroteFront}
 use Rattle.agent.specs.declared.report.Ending.{Ending}
 use Rattle.agent.specs.declared.report.Ending.TheVariants.{Done, Refused}
 use Rattle.agent.specs.declared.report.Fault.{Fault}
-use Rattle.agent.specs.declared.command.Command.{Command}
 use Rattle.agent.specs.declared.command.Command.TheVariants.{Receive, Replay, Soak}
 use Rattle.agent.specs.Receive.{receive_report}
 use Rattle.agent.specs.Progress.{IsReported}
 use Rattle.agent.specs.Replay.{replay_report}
 use Rattle.agent.specs.Soak.{soak_text}
-use Rattle.agent.specs.Programs.{report_of, status_of, IsPrinted, IsRead}
+use Rattle.agent.specs.Programs.{report_of, status_of, IsPrinted}
 use Rattle.agent.proofs.Runs.{some_taken}
 
 -- a text of which a front was written

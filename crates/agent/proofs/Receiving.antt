@@ -1,6 +1,6 @@
 -- The loops of `receive`: the frames of a link, and what is counted once the peer has left.
 use Rattle.std.proofs.Common.{◌≡◌, ℕ, ◌+◌, ◌-◌, ◌<◌, ◌≤◌, Bool, true, false, List, [], ◌++◌, length, take, length-append, sym, ap, subst, ◌∙◌, refl, arith, rules}
-use Rattle.std.specs.Prelude.{nat_lt, Option, Some, None}
+use Rattle.std.specs.Prelude.{nat_lt, Option}
 use Rattle.std.specs.Io.KnownBytes.{Appends, Consumes}
 use Rattle.std.proofs.lemmas.List.{take_all}
 use Rattle.ra_model.specs.FirstFrame.{is_too_long, number_at}
@@ -8,12 +8,11 @@ use Rattle.ra_model.specs.Cutting.{frames_of, rest_of}
 use Rattle.ra_model.specs.Endpoints.{Endpoint}
 use Rattle.ra_model.proofs.Framing.{first_frame-nil}
 use Rattle.ra_ports.specs.Texts.{Told}
-use Rattle.agent.specs.declared.report.Ending.{Ending}
 use Rattle.agent.specs.declared.report.Ending.TheVariants.{Done, Refused}
 use Rattle.agent.specs.declared.receiver.Turned.{Turned}
 use Rattle.agent.specs.declared.receiver.Turned.TheVariants.{Waiting, Refused as RefusedThere, Ended as EndedThere}
 use Rattle.agent.specs.Lines.{end_line, over_line}
-use Rattle.agent.specs.Receive.{Report, prefixed, report, after_end, receive_report, input_limit, first_link}
+use Rattle.agent.specs.Receive.{Report, report, after_end, receive_report, input_limit, first_link}
 use Rattle.agent.specs.Progress.{Progress, IsReady, IsWaiting, Turns, endpoint_of, due, due_input, due_after_end}
 use Rattle.agent.proofs.Outlooks.{end_on}
 use Rattle.agent.proofs.PieceLemmas.{over_both}

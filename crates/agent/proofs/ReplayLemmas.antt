@@ -1,11 +1,11 @@
 -- A script that was read, and what is written for it.
-use Rattle.std.proofs.Common.{◌≡◌, ℕ, ◌<◌, ◌≤◌, Bool, true, false, cond, List, [], ◌++◌, length, take, drop, refl, sym, ap, ◌∙◌, arith, rules}
-use Rattle.std.specs.Prelude.{nat_lt, Option, Some, None}
+use Rattle.std.proofs.Common.{◌≡◌, ℕ, ◌<◌, ◌≤◌, Bool, true, false, cond, List, [], ◌++◌, length, take, drop, sym, ap, ◌∙◌, arith, rules}
+use Rattle.std.specs.Prelude.{nat_lt, Option, Some}
 use Rattle.std.specs.Io.KnownBytes.{Appends}
 use Rattle.std.proofs.lemmas.List.{take-append-drop}
 use Rattle.ra_script.specs.Reading.{script_at}
 use Rattle.ra_ports.specs.Causes.{AppendsFront}
-use Rattle.ra_ports.specs.Texts.{WroteAll, WroteFront}
+use Rattle.ra_ports.specs.Texts.{WroteFront}
 use Rattle.agent.specs.declared.read_whole.Input.{Input}
 use Rattle.agent.specs.declared.read_whole.Input.TheVariants.{Whole, Over}
 use Rattle.agent.specs.declared.report.Ending.{Ending}

@@ -1,12 +1,12 @@
 -- A script, line by line.
-use Rattle.std.proofs.Common.{◌≡◌, ℕ, zero, suc, ◌+◌, ◌-◌, ◌*◌, ◌^◌, ◌<◌, ◌≤◌, Bool, true, false, cond, List, [], ◌∷◌, ◌++◌, length, drop, map, append_assoc, append-nil, refl, sym, ap, subst, ◌∙◌, arith}
+use Rattle.std.proofs.Common.{◌≡◌, ℕ, ◌+◌, ◌<◌, ◌≤◌, List, [], ◌∷◌, ◌++◌, length, drop, append_assoc, append-nil, refl, sym, ap, subst, ◌∙◌}
 use Rattle.std.specs.Prelude.{Option, Some, None, Result, Ok, Err, IfOk, OnOk, ◌≢◌, codes}
 use Rattle.std.proofs.lemmas.List.{length-map, drop_more, drop_all}
 use Rattle.std.specs.Prelude.{slice_index_or}
 use Rattle.ra_model.specs.declared.fault.EventFault.{EventFault}
 use Rattle.ra_model.specs.declared.fault.EventFault.TheVariants.{NoSuchLink, TooMany, End, NoMemory}
-use Rattle.ra_model.specs.Endpoints.{Endpoint, SaidMessage, owed}
-use Rattle.ra_model.specs.Pairs.{body_of, messages}
+use Rattle.ra_model.specs.Endpoints.{owed}
+use Rattle.ra_model.specs.Pairs.{body_of}
 use Rattle.ra_base.specs.declared.memory.NoMemory.{NoMemory as Lacking}
 use Rattle.ra_base.specs.declared.event.Side.{Side}
 use Rattle.ra_base.specs.declared.event.Side.TheVariants.{A, B}

@@ -1,16 +1,14 @@
 -- The lines that are drawn from a number, and the sums of their run.
-use Rattle.std.proofs.Common.{◌≡◌, ℕ, zero, suc, ◌+◌, ◌*◌, ◌^◌, ◌%◌, ◌<◌, ◌≤◌, Bool, true, false, cond, List, [], ◌∷◌, ◌++◌, length, append_assoc, refl, sym, ap, subst, ◌∙◌, arith}
+use Rattle.std.proofs.Common.{◌≡◌, ℕ, zero, suc, ◌+◌, ◌*◌, ◌^◌, ◌<◌, ◌≤◌, Bool, true, false, cond, List, [], ◌∷◌, ◌++◌, length, append_assoc, sym, ap, subst, ◌∙◌, arith}
 use Rattle.std.specs.Prelude.{nat_lt, codes}
 use Rattle.std.specs.Fmt.{decimal}
 use Rattle.std.specs.List.{AllByRecursion}
-use Rattle.std.proofs.lemmas.List.{length-map}
-use Rattle.ra_base.specs.declared.event.Side.{Side}
 use Rattle.ra_base.specs.declared.event.Side.TheVariants.{A, B}
 use Rattle.ra_model.specs.Worlds.{World}
 use Rattle.ra_world.specs.WorldStates.{WorldState, StandsForWorld}
 use Rattle.ra_script.specs.declared.line.Line.{Line}
 use Rattle.ra_script.specs.declared.generating.Generator.{Generator}
-use Rattle.ra_script.specs.Generated.{generated, steps_lines, step_lines, generator_after, kind_drawn, after_kind, generator_from, later, drawn}
+use Rattle.ra_script.specs.Generated.{generated, steps_lines, step_lines, generator_after, kind_drawn, after_kind, generator_from, later}
 use Rattle.ra_script.proofs.Draws.{moment_after}
 use Rattle.agent.specs.declared.soak.Summary.{Summary}
 use Rattle.agent.specs.Soak.{summary_of, summary_line, soak_text, world_behind}

@@ -1,6 +1,6 @@
 -- What a line of a script does, by the calls that it makes.
-use Rattle.std.proofs.Common.{◌≡◌, ℕ, zero, suc, ◌+◌, ◌-◌, ◌<◌, ◌≤◌, Bool, true, false, cond, List, [], ◌∷◌, ◌++◌, length, append_assoc, append-nil, length-append, refl, sym, ap, subst, ◌∙◌, arith}
-use Rattle.std.specs.Prelude.{◌≢◌, Option, Some, None, is_some, Result, Ok, Err, option_map, not, ◌&&◌, nat_lt, ◌==◌, if◌then◌else◌}
+use Rattle.std.proofs.Common.{◌≡◌, ℕ, suc, ◌+◌, ◌<◌, ◌≤◌, Bool, true, false, cond, List, [], ◌∷◌, ◌++◌, length, append-nil, refl, sym, ap, subst, ◌∙◌, arith}
+use Rattle.std.specs.Prelude.{◌≢◌, Option, Some, None, is_some, Err, option_map, not, ◌&&◌, nat_lt, ◌==◌, if◌then◌else◌}
 use Rattle.ra_base.specs.declared.event.Side.{Side}
 use Rattle.ra_base.specs.declared.event.Side.TheVariants.{A, B}
 use Rattle.ra_base.specs.declared.event.Event.{Event}
@@ -8,7 +8,6 @@ use Rattle.ra_base.specs.declared.event.Event.TheVariants.{Take}
 use Rattle.ra_model.specs.declared.frame.Frame.{Frame}
 use Rattle.ra_model.specs.declared.session.Up.{Up as Delivery}
 use Rattle.ra_model.specs.declared.effect.Effect.{Effect}
-use Rattle.ra_model.specs.declared.effect.Effect.TheVariants as effects
 use Rattle.ra_model.specs.declared.fault.EventFault.{EventFault}
 use Rattle.ra_model.specs.declared.fault.EventFault.TheVariants.{NoSuchLink, TooMany, End, NoMemory}
 use Rattle.ra_model.specs.Frames.{joined, frame_bytes}
@@ -17,16 +16,15 @@ use Rattle.ra_model.specs.FrameKinds.{FrameKind, frame_kind, replay_request}
 use Rattle.ra_model.specs.FrameKinds.FrameKind.{Regular, Control, Disconnect, ReplayRequest, Pause, Resume, Other}
 use Rattle.ra_model.specs.Timing.{message_heard, asked_lately}
 use Rattle.ra_model.specs.Endpoints.{Endpoint, is_up, is_linked}
-use Rattle.ra_model.specs.Calls.{moment, checked, replayed}
+use Rattle.ra_model.specs.Calls.{moment}
 use Rattle.ra_model.specs.Taking.{delivery, delivery_of, next_frame, take_frame, took, on_frame, passed}
 use Rattle.ra_model.specs.Worlds.{Peer, World, peer, with_peer}
 use Rattle.ra_model.specs.Refusals.{refusal}
 use Rattle.ra_model.specs.Events.{after, effect, happens, unless, taken, handed_up}
 use Rattle.ra_model.proofs.CuttingLemmas.{found_shorter, frame_bytes_some}
-use Rattle.ra_world.specs.WorldStates.{WorldState, StandsForWorld, peer_of}
+use Rattle.ra_world.specs.WorldStates.{WorldState, StandsForWorld}
 use Rattle.agent.specs.ReplayLines.{side_of, effect_line}
-use Rattle.agent.specs.Replay.{Step, refused_or, event_step, and_then, take_on, drain_within, drain_step}
-use Rattle.ra_script.specs.declared.line.Line.{Line}
+use Rattle.agent.specs.Replay.{Step, refused_or, event_step, drain_step}
 use Rattle.ra_script.specs.declared.line.Line.TheVariants.{Base, Do, Drain}
 use Rattle.agent.specs.ReplayLines.{base_line}
 use Rattle.agent.specs.Replay.{line_step}

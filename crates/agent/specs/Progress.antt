@@ -1,5 +1,5 @@
 -- What a run of `receive` has still to print.
-use Rattle.std.specs.Prelude.{◌≡◌, ◌≢◌, ℕ, ◌+◌, ◌-◌, ◌<◌, ◌≤◌, Bool, true, false, nat_lt, List, [], ◌++◌, length, take, Option, Some, None}
+use Rattle.std.specs.Prelude.{◌≡◌, ℕ, ◌+◌, ◌-◌, ◌<◌, ◌≤◌, Bool, true, false, nat_lt, List, [], ◌++◌, length, take, Option, Some, None}
 use Rattle.ra_model.specs.FirstFrame.{first_frame, is_too_long}
 use Rattle.ra_model.specs.Cutting.{frames_of, rest_of}
 use Rattle.ra_model.specs.Endpoints.{Endpoint, is_linked}

@@ -1,6 +1,5 @@
 -- What `replay` prints for a script, and `soak` for its words.
-use Rattle.std.specs.Prelude.{ℕ, zero, suc, ◌+◌, Bool, nat_lt, if◌then◌else◌, Option, Some, None, Result, Ok, Err, List, [], ◌∷◌, ◌++◌, length, codes}
-use Rattle.std.specs.Fmt.{decimal}
+use Rattle.std.specs.Prelude.{ℕ, zero, suc, ◌+◌, nat_lt, if◌then◌else◌, Option, Some, None, Result, Ok, Err, List, [], ◌∷◌, ◌++◌, length, codes}
 use Rattle.ra_base.specs.declared.event.Side.{Side}
 use Rattle.ra_base.specs.declared.event.Side.TheVariants.{A, B}
 use Rattle.ra_base.specs.declared.event.Event.{Event}
@@ -18,12 +17,11 @@ use Rattle.ra_script.specs.declared.line.ScriptFault.{ScriptFault}
 use Rattle.ra_script.specs.declared.line.ScriptFault.TheVariants as unread
 use Rattle.ra_script.specs.Causes.{cause_name}
 use Rattle.ra_script.specs.Reading.{script_at}
-use Rattle.agent.specs.declared.report.Ending.{Ending}
 use Rattle.agent.specs.declared.report.Ending.TheVariants.{Done, Refused}
 use Rattle.agent.specs.declared.read_whole.Input.{Input}
 use Rattle.agent.specs.declared.read_whole.Input.TheVariants.{Whole, Over}
 use Rattle.agent.specs.Lines.{line}
-use Rattle.agent.specs.ReplayLines.{side_of, effect_line, handed_line, base_line, fault_line, unread_line, script_over_line, side_counts}
+use Rattle.agent.specs.ReplayLines.{side_of, effect_line, base_line, fault_line, unread_line, script_over_line, side_counts}
 use Rattle.agent.specs.Receive.{Report, prefixed}
 
 -- the most bytes of a script

@@ -1,5 +1,5 @@
 -- The lines that `replay` and `soak` print.
-use Rattle.std.specs.Prelude.{ℕ, Bool, true, false, List, [], ◌∷◌, ◌++◌, length, codes}
+use Rattle.std.specs.Prelude.{ℕ, Bool, true, false, List, [], ◌++◌, length, codes}
 use Rattle.std.specs.Fmt.{decimal}
 use Rattle.ra_base.specs.declared.event.Side.{Side}
 use Rattle.ra_base.specs.declared.event.Side.TheVariants.{A, B}

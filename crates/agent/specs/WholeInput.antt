@@ -1,5 +1,5 @@
 -- What was read of an input, where the source tells.
-use Rattle.std.specs.Prelude.{◌≡◌, ℕ, ◌<◌, ◌≤◌, List, [], length, Option, Some, Vec}
+use Rattle.std.specs.Prelude.{◌≡◌, ℕ, ◌<◌, ◌≤◌, List, [], length, Option, Some}
 use Rattle.agent.specs.declared.read_whole.Input.{Input}
 use Rattle.agent.specs.declared.read_whole.Input.TheVariants.{Whole, Over}
 

@@ -1,8 +1,7 @@
-use Rattle.std.proofs.Common.{◌≡◌, List, ℕ, map, string_bytes, sym, ap, ◌∙◌, rules}
-use Rattle.std.specs.Prelude.{Option, Some, None}
-use Rattle.agent.specs.declared.command.Command.{Command}
+use Rattle.std.proofs.Common.{◌≡◌, map, string_bytes, sym, ap, ◌∙◌, rules}
+use Rattle.std.specs.Prelude.{Some, None}
 use Rattle.agent.specs.Lines.{usage_line}
-use Rattle.agent.specs.Programs.{command_of, status_of, output_for, status_for, IsRead}
+use Rattle.agent.specs.Programs.{command_of, status_of}
 use Rattle.agent.proofs.ProgramLemmas.{front_of_text, all_of_text, done_from_zero}
 use Rattle.agent.proofs.plain.run_plain.Goals as goal
 

@@ -1,9 +1,7 @@
-use Rattle.std.proofs.Common.{◌≡◌, ◌≢◌, ◌<◌, ◌++◌, ◌-◌, ℕ, List, [], length, take, ap, sym, refl, ◌∙◌, arith}
-use Rattle.std.proofs.lemmas.List.{length-take}
+use Rattle.std.proofs.Common.{[], refl, arith}
 use Rattle.std.specs.Io.KnownBytes.{Consumes}
 use Rattle.agent.specs.declared.report.Ending.TheVariants.{Done, Refused}
 use Rattle.agent.specs.Lines.{end_line, over_line}
-use Rattle.agent.specs.Receive.{input_limit}
 use Rattle.agent.specs.Progress.{due_after_end}
 use Rattle.agent.proofs.Runs.{front_of, lines_read, ends_there, ends_on, next_of_end, next_last, done_by, front_by, rose_from}
 use Rattle.agent.proofs.Receiving.{counting_at_start, counting_on, counted_end, counted_over}

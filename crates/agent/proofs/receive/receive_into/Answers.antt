@@ -1,10 +1,10 @@
-use Rattle.std.proofs.Common.{◌≡◌, ◌≢◌, ◌<◌, ◌++◌, ◌-◌, ℕ, List, [], length, take, ap, sym, refl, ◌∙◌, arith}
+use Rattle.std.proofs.Common.{[], sym, refl, ◌∙◌, arith}
 use Rattle.std.specs.Io.KnownBytes.{Consumes}
 use Rattle.agent.specs.declared.report.Ending.TheVariants.{Done, Refused}
 use Rattle.agent.specs.Lines.{end_line}
 use Rattle.agent.specs.Receive.{Report, receive_report}
 use Rattle.agent.specs.Progress.{due_input, due_after_end}
-use Rattle.agent.proofs.Runs.{wrote_none, front_of, lines_read, ends_there, ends_on, next_of_end, wrote_front, done_by, front_by, done_from, front_on, lines_on}
+use Rattle.agent.proofs.Runs.{front_of, lines_read, ends_there, ends_on, next_of_end, wrote_front, done_by, front_by, done_from, front_on, lines_on}
 use Rattle.agent.proofs.Receiving.{under_way_at_start, under_way_on, last_line, next_of_turn, turn_text, ended_told}
 use Rattle.agent.proofs.receive.receive_into.Goals as goal
 

@@ -1,6 +1,4 @@
-use Rattle.std.proofs.Common.{◌≡◌, length, ap, ◌∙◌}
-use Rattle.ra_model.specs.Endpoints.{shown}
-use Rattle.agent.specs.Progress.{endpoint_of}
+use Rattle.std.proofs.Common.{length, ap}
 use Rattle.agent.proofs.Listening.{shown_known}
 use Rattle.agent.proofs.receiver.push_shown.Goals as goal
 

@@ -1,4 +1,4 @@
-use Rattle.std.proofs.Common.{◌≡◌, length, ap, arith}
+use Rattle.std.proofs.Common.{length, ap, arith}
 use Rattle.agent.proofs.Listening.{first_known}
 use Rattle.agent.proofs.receiver.Receiver.new.Goals as goal
 

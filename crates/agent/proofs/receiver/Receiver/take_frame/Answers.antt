@@ -1,5 +1,5 @@
-use Rattle.std.proofs.Common.{◌≡◌, ◌∙◌, ◌-◌, true, false, sym, ap, refl, subst}
-use Rattle.std.specs.Prelude.{Ok, IfOk}
+use Rattle.std.proofs.Common.{◌≡◌, ◌∙◌, ◌-◌, true, false, sym, ap, refl}
+use Rattle.std.specs.Prelude.{Ok}
 use Rattle.ra_model.specs.Endpoints.{is_ended}
 use Rattle.agent.specs.Receive.{after_frame}
 use Rattle.agent.specs.Progress.{Progress, endpoint_of}

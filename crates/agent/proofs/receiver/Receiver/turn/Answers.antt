@@ -1,6 +1,4 @@
-use Rattle.std.proofs.Common.{◌≡◌, ◌-◌, min, length, ap, refl, sym, arith, rules}
-use Rattle.std.specs.Prelude.{◌≢◌}
-use Rattle.agent.specs.declared.receiver.Turned.TheVariants.{Refused}
+use Rattle.std.proofs.Common.{◌≡◌, ◌-◌, min, length, refl, arith}
 use Rattle.agent.specs.Receive.{input_limit}
 use Rattle.agent.proofs.PieceLemmas.{turn_same, turn_refused, turn_past, not_refused, drains_at}
 use Rattle.agent.proofs.receiver.Receiver.turn.Goals as goal

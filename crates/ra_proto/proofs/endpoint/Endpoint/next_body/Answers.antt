@@ -1,4 +1,4 @@
-use Rattle.std.proofs.Common.{◌≡◌, ap, sym, ◌∙◌}
+use Rattle.std.proofs.Common.{◌≡◌, ap}
 use Rattle.ra_model.specs.EndpointStates.{EndpointState}
 use Rattle.ra_proto.proofs.NextBody.{too_long_body}
 use Rattle.ra_proto.proofs.endpoint.Endpoint.next_body.Goals as goal
