@@ -82,6 +82,7 @@ impl World {
         self.peers.at(side).heard.as_slice()
     }
 
+    /// The endpoint of a side.
     pub fn end(&self, side: Side) -> &Endpoint
         ensures { result.now ≡ (peer_of side self.now).endpoint }
     {
