@@ -1,5 +1,5 @@
 -- Where a head ends that is written as lines: behind its empty line and nowhere before, whatever follows.
-use Rattle.std.proofs.Common.{◌≡◌, ◌≢◌, ℕ, ◌+◌, ◌-◌, ◌<◌, ◌≤◌, List, [], ◌∷◌, ◌++◌, length, take, get_or, Option, Some, None, Result, Ok, Err, cond, nat_lt, arith, refl, sym, ap, subst, ◌∙◌, inl, inr, append_assoc, append-nil, length-append, length-take, All}
+use Rattle.std.proofs.Common.{◌≡◌, ◌≢◌, ℕ, ◌+◌, ◌-◌, ◌<◌, ◌≤◌, List, [], ◌∷◌, ◌++◌, length, take, min, get_or, Option, Some, None, Result, Ok, cond, nat_lt, arith, refl, sym, ap, subst, ◌∙◌, inl, inr, append_assoc, append-nil, length-append, length-take, All}
 use Rattle.std.proofs.Common.{get_or-take}
 use Rattle.std.proofs.lemmas.Bool.{cases_lt}
 use Rattle.std.proofs.lemmas.Grind.{common_steps, flat_map-append}
@@ -131,7 +131,43 @@ untaken n text k occurs =
       },
     )
 
+taken : (n : ℕ) (text : List ℕ) (k : ℕ) → k + 4 ≤ n → OccursAt text empty_line k → OccursAt (take n text) empty_line k
+taken n text k low occurs = record {
+  fits = omega (arith, occurs.fits, length-take n text);
+  reads = λ j lt. let inside : k + j < n = omega (arith, low, lt) in get_or-take n text (k + j) 0 inside ∙ occurs.reads j lt;
+}
+
+-- ---- the bytes that a head may have
+
+-- an end that is found in them is the end of the head
+pub found_in_front : (bytes : List ℕ) (n at : ℕ) → n ≤ max_head → FindsNeedle (take n bytes) empty_line 0 (Some at) → EndsAt bytes (at + 4)
+found_in_front bytes n at most found =
+    let here_too = untaken n bytes at found.1 in
+    record {
+      place = at;
+      first = (
+        record {
+          low = omega arith;
+          high = omega (arith, here_too.1.fits);
+          before = λ k least lt occurs. found.0.before k least lt (taken n bytes k (omega (arith, lt, here_too.0)) occurs);
+        },
+        here_too.1,
+      );
+      n_is = refl;
+      most = omega (arith, most, here_too.0);
+    }
+
+-- where none is found in them, the head has no end
+pub none_in_front : (bytes : List ℕ) (n : ℕ) → n ≡ min (length bytes) max_head → FindsNeedle (take n bytes) empty_line 0 None → NeverEnds bytes
+none_in_front bytes n is none = λ place fits occurs.
+    let low : place + 4 ≤ n = omega (arith, is, fits, occurs.fits) in
+    none place (omega arith) (omega (arith, length-take n bytes, low, occurs.fits)) (taken n bytes place low occurs)
+
 -- ---- a head that is written as lines
+
+-- an empty line as the last of them
+pub lines_last : (ls : List (List ℕ)) → lines (ls ++ [] ∷ []) ≡ lines ls ++ crlf_bytes
+lines_last ls = flat_map-append (λ line. line ++ crlf_bytes) ls ([] ∷ [])
 
 -- the text is these lines and an empty one, and no longer than a head may be
 pub record IsLines (ls : List (List ℕ)) (text : List ℕ) : Type 0 where

@@ -1,5 +1,5 @@
 -- What the grammar of heads says of a text that is a whole head.
-use Rattle.std.proofs.Common.{◌≡◌, ℕ, ◌≤◌, List, [], ◌++◌, length, drop, arith, ap, sym, ◌∙◌, append-nil, length-drop}
+use Rattle.std.proofs.Common.{◌≡◌, ℕ, ◌≤◌, List, [], length, drop, arith, ap, sym, ◌∙◌, append-nil, length-drop}
 use Rattle.httparse.specs.Grammar.{RequestHead, ReadsRequest, print_request, ResponseHead, ReadsResponse, print_response}
 use Rattle.httparse.proofs.GrammarLemmas.{request_unique, response_unique}
 use Rattle.ra_upgrade.specs.RequestHeads.{IsHead}

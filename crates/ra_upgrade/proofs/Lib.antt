@@ -3,3 +3,8 @@ pub mod QueryLemmas
 pub mod RequestLemmas
 pub mod ReadingLemmas
 pub mod EndLemmas
+pub mod TextLemmas
+pub mod AnswerTextLemmas
+pub mod QueryTextLemmas
+pub mod RequestReadLemmas
+pub mod JudgedLemmas

@@ -1,4 +1,4 @@
-use Rattle.std.proofs.Common.{◌≡◌, ℕ, List, [], ◌∷◌, ◌++◌, codes, append_assoc, append-nil, refl}
+use Rattle.std.proofs.Common.{◌≡◌, ℕ, List, ◌++◌, codes, append_assoc, refl}
 use Rattle.httparse.specs.Ascii.{crlf_bytes}
 use Rattle.ra_upgrade.specs.RequestTexts.{lines_of}
 

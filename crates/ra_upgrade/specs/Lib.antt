@@ -6,3 +6,4 @@ pub mod RequestHeads
 pub mod AnswerTexts
 pub mod RequestTexts
 pub mod AnswerHeads
+pub mod Exchange

@@ -1,6 +1,6 @@
 -- The query of a request target, as pairs of names and values (application/x-www-form-urlencoded, the URL Standard, section 5).
 -- Names and values are percent-decoded; bytes that are then no UTF-8 become U+FFFD.
-use Rattle.std.specs.Prelude.{ℕ, Bool, true, false, List, [], ◌∷◌, map, filter, Option, Some, None, bytes_eq, codes}
+use Rattle.std.specs.Prelude.{ℕ, Bool, false, List, [], ◌∷◌, map, filter, Option, Some, None, bytes_eq, codes}
 use Rattle.std.specs.Str.Lossy.{utf8_lossy}
 use Rattle.form_urlencoded.specs.Form.{split_once, raw_pairs, decode}
 

@@ -1,6 +1,6 @@
 -- What is answered to bytes that are to begin with a head, as three rules of which just one applies: no head ends there yet, one
 -- ends there that has not the form, or one is there and says something. It holds for each form of head and for all that one says.
-use Rattle.std.specs.Prelude.{◌≡◌, ℕ, List, length, take, nat_lt, Option, Some, None, Result, Ok, Err, if◌then◌else◌}
+use Rattle.std.specs.Prelude.{◌≡◌, ℕ, List, length, take, nat_lt, Option, None, Result, Ok, Err, if◌then◌else◌}
 use Rattle.ra_upgrade.specs.Ends.{max_head, EndsAt, NeverEnds}
 
 -- no head ends there: more bytes may bring its end, where there are fewer than a head may have

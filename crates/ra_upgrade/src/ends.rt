@@ -10,12 +10,13 @@ pub const MAX_HEAD: usize = 16_384;
 /// The most header fields of a head.
 pub const MAX_FIELDS: usize = 64;
 
-/// The length of the head at the front of the bytes.
+/// The length of the head at the front of the bytes. No more than a head may have is looked at.
 pub fn head_len(bytes: &[u8]) -> Option<usize>
     ensures { MatchOption result (NeverEnds bytes.now) (EndsAt bytes.now) }
 {
-    match memmem::find(bytes, b"\r\n\r\n") {
-        Some(at) if at <= MAX_HEAD - 4 => Some(at + 4),
-        _ => None,
+    let front = &bytes[..bytes.len().min(MAX_HEAD)];
+    match memmem::find(front, b"\r\n\r\n") {
+        Some(at) => Some(at + 4),
+        None => None,
     }
 }

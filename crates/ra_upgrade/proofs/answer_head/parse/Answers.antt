@@ -1,4 +1,4 @@
-use Rattle.std.proofs.Common.{◌≤◌, length, arith, []}
+use Rattle.std.proofs.Common.{arith, []}
 use Rattle.ra_upgrade.proofs.HeadLemmas.{response_is_all, whole_response}
 use Rattle.ra_upgrade.proofs.answer_head.parse.Goals as goal
 

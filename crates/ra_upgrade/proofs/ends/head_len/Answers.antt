@@ -1,10 +1,9 @@
-use Rattle.std.proofs.Common.{◌<◌, ◌≤◌, ◌+◌, length, arith}
+use Rattle.std.proofs.Common.{arith}
+use Rattle.ra_upgrade.proofs.EndLemmas.{found_in_front, none_in_front}
 use Rattle.ra_upgrade.proofs.ends.head_len.Goals as goal
 
-pub returns-in_default : goal.returns-in_default
-returns-in_default c = λ place fits occurs.
-    c.in-Some.ensures.0.before place (omega arith) (omega (arith, c.if-at.false)) occurs
+pub returns-in-Some : goal.returns-in-Some
+returns-in-Some c = found_in_front c.args.bytes.now c.min.result c.in-Some.at (omega (arith, c.min.ensures)) c.in-Some.ensures
 
-pub returns-in_default-2 : goal.returns-in_default-2
-returns-in_default-2 c = λ place fits occurs.
-    c.in_default.ensures place (omega arith) (omega (arith, occurs.fits)) occurs
+pub returns-in-None : goal.returns-in-None
+returns-in-None c = none_in_front c.args.bytes.now c.min.result (omega (arith, c.min.ensures)) c.in-None.ensures

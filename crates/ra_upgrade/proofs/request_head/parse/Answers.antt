@@ -1,4 +1,4 @@
-use Rattle.std.proofs.Common.{◌≤◌, length, arith}
+use Rattle.std.proofs.Common.{arith}
 use Rattle.ra_upgrade.proofs.HeadLemmas.{request_is_all}
 use Rattle.ra_upgrade.proofs.request_head.parse.Goals as goal
 
