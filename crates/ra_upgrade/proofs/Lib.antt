@@ -8,3 +8,4 @@ pub mod AnswerTextLemmas
 pub mod QueryTextLemmas
 pub mod RequestReadLemmas
 pub mod JudgedLemmas
+pub mod Rows

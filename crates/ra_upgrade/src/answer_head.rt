@@ -1,10 +1,10 @@
 //! The server's answer, as the client reads it.
-ghost use Rattle.std.specs.Prelude.{◌≡◌, ◌≢◌, Err, length, map, option_map, All, IfSome, IfNone, IfOk};
+ghost use Rattle.std.specs.Prelude.{◌≡◌, ◌≢◌, ◌<◌, ◌≤◌, Err, length, map, option_map, All, IfSome, IfNone, IfOk};
 ghost use Rattle.httparse.specs.Grammar.{ResponseHead};
 ghost use Rattle.httparse.specs.Spans.{IsResponseWithin, IsResponseAt, IsHeaderWithin, header_bytes};
 ghost use Rattle.ra_base.specs.Outcome.{Answers};
 ghost use Rattle.ra_upgrade.specs.declared.answer_head.AnswerFault.TheVariants as faults;
-ghost use Rattle.ra_upgrade.specs.Ends.{max_fields};
+ghost use Rattle.ra_upgrade.specs.Ends.{max_fields, max_head};
 ghost use Rattle.ra_upgrade.specs.AnswerHeads as spec;
 ghost use Rattle.ra_upgrade.specs.AnswerTexts.{accept_text};
 ghost use Rattle.ra_upgrade.specs.RequestTexts as request;
@@ -95,7 +95,9 @@ fn accepts(
 
 /// Reads the server's answer to a request with that key, and its length in bytes. `None` asks for more bytes.
 pub fn read_answer(alloc: Global, key: [u8; 16], bytes: &[u8]) -> Result<Option<usize>, AnswerFault>
-    ensures { result ≢ Err faults.NoMemory → spec.AnswerIs key bytes.now result }
+    ensures answer { result ≢ Err faults.NoMemory → spec.AnswerIs key bytes.now result }
+    ensures within { IfOk result (λ found. IfSome found (λ len. len ≤ length bytes.now)) }
+    ensures short { IfOk result (λ found. IfNone found (length bytes.now < max_head)) }
 {
     let Some(len) = head_len(bytes) else {
         return if bytes.len() < MAX_HEAD {

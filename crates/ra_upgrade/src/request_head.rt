@@ -1,10 +1,10 @@
 //! Upgrade requests, as the server reads them.
-ghost use Rattle.std.specs.Prelude.{◌≡◌, ◌≢◌, Err, length, map, option_map, codes, All, IfSome, IfNone};
+ghost use Rattle.std.specs.Prelude.{◌≡◌, ◌≢◌, ◌<◌, ◌≤◌, Err, IfOk, length, map, option_map, codes, All, IfSome, IfNone};
 ghost use Rattle.httparse.specs.Grammar.{RequestHead};
 ghost use Rattle.httparse.specs.Spans.{IsRequestWithin, IsRequestAt, IsWithin, IsHeaderWithin, span_bytes, header_bytes};
 ghost use Rattle.ra_base.specs.Outcome.{Answers};
 ghost use Rattle.ra_upgrade.specs.declared.request_head.HeadFault.TheVariants as faults;
-ghost use Rattle.ra_upgrade.specs.Ends.{max_fields};
+ghost use Rattle.ra_upgrade.specs.Ends.{max_fields, max_head};
 ghost use Rattle.ra_upgrade.specs.Query.{only_value};
 ghost use Rattle.ra_upgrade.specs.RequestHeads as spec;
 
@@ -162,7 +162,9 @@ fn upgrade_of(
 
 /// Reads the head of an upgrade request, and its length in bytes. `None` asks for more bytes.
 pub fn read_head(alloc: Global, bytes: &[u8]) -> Result<Option<(Upgrade, usize)>, HeadFault>
-    ensures { result ≢ Err faults.NoMemory → spec.HeadIs bytes.now result }
+    ensures answer { result ≢ Err faults.NoMemory → spec.HeadIs bytes.now result }
+    ensures within { IfOk result (λ found. IfSome found (λ head. head.1 ≤ length bytes.now)) }
+    ensures short { IfOk result (λ found. IfNone found (length bytes.now < max_head)) }
 {
     let Some(len) = head_len(bytes) else {
         return if bytes.len() < MAX_HEAD {
