@@ -53,8 +53,8 @@ fn lines(alloc: Global, query: &str, host: &str, key: &str) -> Result<String, Al
     Ok(text)
 }
 
-/// The client's upgrade request (RFC 6455, section 4.1). The host is written as it is given: one with a line end in it, or too long
-/// for a head, makes a request that no server reads as such.
+/// The client's upgrade request (RFC 6455, section 4.1). The host is written as it is given, line ends too: `laws::request_is_read`
+/// says for which hosts the server reads the request as that.
 #[tactic(auto, unfolding(crate::specs::RequestTexts::request_text))]
 pub fn request(
     alloc: Global,

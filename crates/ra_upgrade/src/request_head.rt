@@ -25,7 +25,7 @@ pub struct Upgrade {
     pub reconnection: bool,
     /// The frames of the protocol follow the head directly, and no WebSocket messages carry them.
     pub skip_frames: bool,
-    /// The text of `Sec-WebSocket-Key`, which is not empty.
+    /// The text of the `Sec-WebSocket-Key` field.
     pub key: Message,
 }
 
