@@ -5,3 +5,4 @@ pub mod Verdict
 pub mod States
 pub mod Server
 pub mod Client
+pub mod Whole

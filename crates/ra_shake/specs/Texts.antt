@@ -1,6 +1,6 @@
 -- The texts of the handshake: JSON objects without spaces, with members in the order of their names.
 use Rattle.std.specs.Prelude.{ℕ, List, codes}
-use Rattle.serde_json.specs.Data.{Data, string, number, unsigned, object, Members, member, no_members}
+use Rattle.serde_json.specs.Data.{Data, string, number, unsigned, object, member, no_members}
 use Rattle.serde_json.specs.Written.{compact_text}
 use Rattle.ra_base.specs.declared.handshake.Reason.{Reason}
 use Rattle.ra_base.specs.declared.kind.Kind.{Kind}

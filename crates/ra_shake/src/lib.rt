@@ -12,6 +12,7 @@
 #![tactic(auto)]
 
 pub mod client;
+pub mod laws;
 mod reading;
 pub mod server;
 pub mod settings;
