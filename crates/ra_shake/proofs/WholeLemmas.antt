@@ -4,6 +4,8 @@ use Rattle.std.specs.Prelude.{bytes_eq}
 use Rattle.std.specs.Cmp.Lexicographic.{nat_list_eq_equiv}
 use Rattle.json.proofs.Printed.Utf8.{IsUtf8-are_ascii}
 use Rattle.ra_base.specs.Reasons.{reason_text}
+use Rattle.ra_sign.specs.Signature.{signature_text, is_signature}
+use Rattle.ra_sign.proofs.SignatureLemmas.{signature_utf8}
 use Rattle.ra_base.specs.declared.handshake.Reason.{Reason}
 use Rattle.ra_base.specs.declared.kind.Kind.{Kind}
 use Rattle.ra_base.specs.declared.kind.Kind.TheVariants.{Management, ExtensionHost, Tunnel}
@@ -132,3 +134,9 @@ succeeds client_signs server_signs counts client server pair server_text client_
       (signature_counts server.settings.secret (counts server.challenge) (client_signs server.challenge) counting);
   accepted = client_last client_signs (record client { has_answered = true }) refl pair.kind;
 }
+
+pub succeeds_by_key : (key : List ℕ) (client : ClientState) (server : ServerState) → AreNew client server
+    → Succeeds (signature_text key) (signature_text key) (is_signature key) client server
+succeeds_by_key key client server pair =
+    succeeds (signature_text key) (signature_text key) (is_signature key) client server pair
+    (signature_utf8 key client.challenge) (signature_utf8 key server.challenge) (itself (signature_text key server.challenge))

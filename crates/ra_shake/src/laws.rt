@@ -1,6 +1,6 @@
 //! What holds of the handshake's texts, of the verdict on a client and of the two ends together. Each function has an empty
 //! body: its clauses are what is proved.
-ghost use Rattle.std.specs.Prelude.{◌≡◌, ◌≢◌, ◌↔◌, ℕ, ◌+◌, ◌*◌, ◌<◌, ◌≤◌, ◌^◌, Bool, true, false, List, ◌++◌, length, Option, Some, IsUtf8};
+ghost use Rattle.std.specs.Prelude.{◌≡◌, ◌≢◌, ℕ, ◌+◌, ◌*◌, ◌<◌, ◌≤◌, ◌^◌, Bool, true, false, List, ◌++◌, length, Option, Some, IsUtf8};
 ghost use Rattle.std.specs.Option.{option_or};
 ghost use Rattle.serde_json.specs.Data.{Data};
 ghost use Rattle.ra_base.specs.Outcome.{first_that};
@@ -9,6 +9,7 @@ ghost use Rattle.ra_base.specs.TokenGrammar.{IsToken};
 ghost use Rattle.ra_base.specs.declared.handshake.Reason.{Reason};
 ghost use Rattle.ra_base.specs.declared.kind.Kind.{Kind};
 ghost use Rattle.ra_base.specs.declared.kind.Kind.TheVariants as kinds;
+ghost use Rattle.ra_sign.specs.Signature.{signature_text, is_signature};
 ghost use Rattle.ra_shake.specs.declared.settings.ShakeSettings.{ShakeSettings};
 ghost use Rattle.ra_shake.specs.declared.server.Stage.TheVariants as stages;
 ghost use Rattle.ra_shake.specs.declared.server.ShakeStep.TheVariants as server_steps;
@@ -109,4 +110,10 @@ pub fn equal_settings_succeed()
         → IsUtf8 (server_signs client.challenge) → IsUtf8 (client_signs server.challenge)
         → counts server.challenge (client_signs server.challenge) ≡ true
         → Succeeds client_signs server_signs counts client server }
+{}
+
+/// Two signers of one key are enough for equal settings.
+pub fn equal_keys_succeed()
+    ensures { (key : List ℕ) (client : ClientState) (server : ServerState) → AreNew client server
+        → Succeeds (signature_text key) (signature_text key) (is_signature key) client server }
 {}

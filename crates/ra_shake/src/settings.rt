@@ -1,3 +1,4 @@
+//! What the two ends of a handshake are set up with.
 use ra_base::Message;
 
 /// What an end of a handshake goes by.
