@@ -124,7 +124,8 @@ impl ClientShake {
 
     /// The first message.
     pub fn first(&self, alloc: Global) -> Result<Message, NoMemory>
-        ensures { IfOk result (λ text. text ≡ auth_text (secret_or_zeros self.now.settings.secret) self.now.challenge) }
+        ensures { IfOk result (λ text. text ≡ auth_text (secret_or_zeros self.now.settings.secret)
+            self.now.challenge) }
     {
         let secret = match &self.settings.secret {
             Some(secret) => str::from_utf8(secret.as_slice()).unwrap(),
@@ -141,7 +142,8 @@ impl ClientShake {
         signer: &G,
         value: Option<&Value>,
     ) -> Result<ClientStep, NoMemory>
-        ensures { IfOk result (λ step. step ≡ spec.on_signed (G.signature_of signer.now) self.now (option_map (λ v. view v.now) value.entry)) }
+        ensures { IfOk result (λ step. step ≡ spec.on_signed (G.signature_of signer.now) self.now
+            (option_map (λ v. view v.now) value.entry)) }
     {
         let Some(object) = value else {
             return refusal(alloc, value);
@@ -161,7 +163,8 @@ impl ClientShake {
 
     /// What it does on the server's last answer.
     fn on_answer(&self, alloc: Global, value: Option<&Value>) -> Result<ClientStep, NoMemory>
-        ensures { IfOk result (λ step. step ≡ spec.on_answer self.now (option_map (λ v. view v.now) value.entry)) }
+        ensures { IfOk result (λ step. step ≡ spec.on_answer self.now
+            (option_map (λ v. view v.now) value.entry)) }
     {
         if is_accepted(self.kind, value) {
             return Ok(ClientStep::Done);
@@ -177,7 +180,8 @@ impl ClientShake {
         signer: &G,
         body: &[u8],
     ) -> Result<ClientStep, NoMemory>
-        ensures step { IfOk result (λ step. step ≡ spec.client_step (G.signature_of signer.now) self.old body.now) }
+        ensures step { IfOk result (λ step. step ≡ spec.client_step (G.signature_of signer.now)
+            self.old body.now) }
         ensures after { IfOk result (λ step. self.new ≡ spec.client_after self.old step) }
         ensures failed { OnErr result (self.new ≡ self.old) }
     {

@@ -71,7 +71,8 @@ pub fn one_verdict()
         (first second text : List ℕ) → s.stage ≡ stages.First
         → server_step signature counts s first ≡ server_steps.Say text
         → server_step signature counts (server_after s (server_steps.Say text)) second
-        ≡ refuse_or (server_steps.Ask (record { kind = wanted_kind (reading second); token = s.token; reconnection = s.reconnection }))
+        ≡ refuse_or (server_steps.Ask
+        (record { kind = wanted_kind (reading second); token = s.token; reconnection = s.reconnection }))
         (judge_both s.settings (counts s.challenge) (reading first) (reading second)) }
 {}
 

@@ -103,7 +103,8 @@ impl ServerShake {
         signer: &G,
         value: Option<&Value>,
     ) -> Result<ShakeStep, NoMemory>
-        ensures { IfOk result (λ step. step ≡ spec.first_step (G.signature_of signer.now) self.now (option_map (λ v. view v.now) value.entry)) }
+        ensures { IfOk result (λ step. step ≡ spec.first_step (G.signature_of signer.now) self.now
+            (option_map (λ v. view v.now) value.entry)) }
     {
         if let Some(reason) = judge_first(&self.settings.secret, value) {
             return Ok(ShakeStep::Refuse { reason });
@@ -122,7 +123,8 @@ impl ServerShake {
         signer: &G,
         value: Option<&Value>,
     ) -> Result<ShakeStep, NoMemory>
-        ensures { IfOk result (λ step. step ≡ spec.second_step (G.counts signer.now) self.now (option_map (λ v. view v.now) value.entry)) }
+        ensures { IfOk result (λ step. step ≡ spec.second_step (G.counts signer.now) self.now
+            (option_map (λ v. view v.now) value.entry)) }
     {
         let challenge = self.challenge.as_slice();
         if let Some(reason) = judge_second(alloc, &self.settings, signer, challenge, value)? {
@@ -146,7 +148,8 @@ impl ServerShake {
         body: &[u8],
     ) -> Result<ShakeStep, NoMemory>
         requires { self.old.stage ≢ stages.Over }
-        ensures step { IfOk result (λ step. step ≡ spec.server_step (G.signature_of signer.now) (G.counts signer.now) self.old body.now) }
+        ensures step { IfOk result (λ step. step ≡ spec.server_step (G.signature_of signer.now)
+            (G.counts signer.now) self.old body.now) }
         ensures after { IfOk result (λ step. self.new ≡ spec.server_after self.old step) }
         ensures failed { OnErr result (self.new ≡ self.old) }
     {

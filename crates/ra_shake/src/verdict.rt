@@ -60,7 +60,8 @@ fn is_signed<G: Signer>(
     challenge: &[u8],
     signed: &str,
 ) -> Result<bool, NoMemory>
-    ensures { IfOk result (λ holds. holds ≡ spec.is_signed secret.now (G.counts signer.now challenge.now) (Some signed.now)) }
+    ensures { IfOk result (λ holds. holds ≡ spec.is_signed secret.now
+        (G.counts signer.now challenge.now) (Some signed.now)) }
 {
     if let Some(secret) = secret {
         if are_equal(signed.as_bytes(), secret.as_slice()) {
