@@ -1,18 +1,24 @@
 //! The outside as traits: a source of bytes and a sink of bytes, with counts of their faults, their memory forms and their
-//! adapters over std's readers and writers.
+//! adapters over std's readers and writers; drawn bytes, with their memory form; and a signer of texts.
 //!
 //! A trait tells what it holds where it can, and clauses on content hold where it is told. Nothing of the protocol is here.
 #![tactic(auto)]
 
+pub mod entropy;
+pub mod mem_entropy;
 pub mod mem_sink;
 pub mod mem_source;
+pub mod signer;
 pub mod sink;
 pub mod source;
 #[cfg(test)]
 mod tests;
 
+pub use entropy::Entropy;
+pub use mem_entropy::MemEntropy;
 pub use mem_sink::MemSink;
 pub use mem_source::MemSource;
+pub use signer::Signer;
 pub use sink::{Sink, StdSink, write_all};
 pub use source::{Source, StdSource};
 

@@ -1,4 +1,4 @@
-use crate::{MemSink, MemSource, Sink, Source, StdSink, StdSource, write_all};
+use crate::{Entropy, MemEntropy, MemSink, MemSource, Sink, Source, StdSink, StdSource, write_all};
 use ra_base::Message;
 use std::alloc::Global;
 use std::io::{self, Read, Write};
@@ -68,5 +68,16 @@ fn the_adapters_count_faults(rt: HostRuntime) -> Result<(), Fail> {
     assert!(rt; write_all(&mut sink, b"ab").is_ok());
     assert!(rt; StdSink::new(Broken).write(b"a").is_err());
     assert_eq!(rt; StdSink::new(Broken).write(b""), Ok(0));
+    Ok(())
+}
+
+#[test]
+fn the_last_draw_in_memory_is_repeated(rt: HostRuntime) -> Result<(), Fail> {
+    let draws = Vec::from_array(rt.alloc(), [[1u8; 16], [2; 16]])?;
+    assert!(rt; !draws.is_empty());
+    let mut entropy = MemEntropy::new(draws);
+    for first in [1, 2, 2] {
+        assert_eq!(rt; entropy.take()[0], first);
+    }
     Ok(())
 }
