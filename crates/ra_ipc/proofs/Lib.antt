@@ -1,0 +1,3 @@
+pub mod HeadFits
+pub mod Readings
+pub mod Spelled
