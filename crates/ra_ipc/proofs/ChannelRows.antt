@@ -1,11 +1,11 @@
--- Worked examples.
+-- Examples, computed.
 use Rattle.std.proofs.Common.{◌≡◌, ℕ, List, [], ◌∷◌, true, refl, length}
 use Rattle.std.specs.Prelude.{codes}
 use Rattle.json.specs.Print.{escape_byte}
 use Rattle.ra_values.specs.Tree.{undefined, object}
 use Rattle.ra_ipc.specs.Messages.{success, error, promise, promise_cancel, response}
-use Rattle.ra_ipc.specs.Server.{Server, promised, is_active, has_call, timeout_answers}
-use Rattle.ra_ipc.specs.Pair.{call, cancel, register, complete, server_hears, client_hears, start, run, cancelled}
+use Rattle.ra_ipc.specs.ChannelServers.{Server, promised, is_active, has_call, timeout_answers}
+use Rattle.ra_ipc.specs.ChannelPairs.{call, cancel, register, complete, server_hears, client_hears, start, run, cancelled}
 
 abbrev x : List ℕ
 x = codes "x"
@@ -14,30 +14,27 @@ abbrev fresh : Server
 fresh = record { channels = []; active = [] }
 
 -- a cancelled call stays cancelled, though its answer was on the way
-row_17 : (run (client_hears ∷ register x ∷ call x x undefined ∷ server_hears 0 ∷ complete 0 (success undefined) ∷ cancel 0 ∷ client_hears ∷ cancel 0 ∷ []) start).settled ≡ (0, cancelled) ∷ []
-row_17 = refl
+a_cancelled_call_stays_cancelled : (run (client_hears ∷ register x ∷ call x x undefined ∷ server_hears 0 ∷ complete 0 (success undefined) ∷ cancel 0 ∷ client_hears ∷ cancel 0 ∷ []) start).settled ≡ (0, cancelled) ∷ []
+a_cancelled_call_stays_cancelled = refl
 
-row_17_out : (run (client_hears ∷ call x x undefined ∷ cancel 0 ∷ cancel 0 ∷ []) start).to_server ≡ promise 0 x x undefined ∷ promise_cancel 0 ∷ []
-row_17_out = refl
+a_cancel_goes_out_once : (run (client_hears ∷ call x x undefined ∷ cancel 0 ∷ cancel 0 ∷ []) start).to_server ≡ promise 0 x x undefined ∷ promise_cancel 0 ∷ []
+a_cancel_goes_out_once = refl
 
-row_30_waits : timeout_answers (promised fresh 0 x x undefined 0) 999 ≡ []
-row_30_waits = refl
+a_call_waits_for_its_channel : timeout_answers (promised fresh 0 x x undefined 0) 999 ≡ []
+a_call_waits_for_its_channel = refl
 
-row_30 : timeout_answers (promised fresh 0 x x undefined 0) 1000 ≡ response 0 (error (object (codes "{\"message\":\"Channel name 'x' timed out after 1000ms\",\"name\":\"Unknown channel\"}"))) ∷ []
+a_call_is_answered_after_a_second : timeout_answers (promised fresh 0 x x undefined 0) 1000 ≡ response 0 (error (object (codes "{\"message\":\"Channel name 'x' timed out after 1000ms\",\"name\":\"Unknown channel\"}"))) ∷ []
 unfolding escape_byte
-row_30 = refl
+a_call_is_answered_after_a_second = refl
 
-row_30_long : length (codes "{\"message\":\"Channel name 'x' timed out after 1000ms\",\"name\":\"Unknown channel\"}") ≡ 78
-row_30_long = refl
+the_error_has_78_bytes : length (codes "{\"message\":\"Channel name 'x' timed out after 1000ms\",\"name\":\"Unknown channel\"}") ≡ 78
+the_error_has_78_bytes = refl
 
-row_8a : (run (call x x undefined ∷ cancel 0 ∷ client_hears ∷ []) start).to_server ≡ []
-row_8a = refl
+what_was_cancelled_is_not_sent : (run (call x x undefined ∷ cancel 0 ∷ client_hears ∷ []) start).to_server ≡ []
+what_was_cancelled_is_not_sent = refl
 
-row_8b : is_active 3 (promised (record { channels = x ∷ []; active = [] }) 3 x x undefined 0) ≡ true
-row_8b = refl
+an_open_call_is_active : is_active 3 (promised (record { channels = x ∷ []; active = [] }) 3 x x undefined 0) ≡ true
+an_open_call_is_active = refl
 
-row_8b_after : has_call 3 (promised (record { channels = x ∷ []; active = [] }) 3 x x undefined 0) ≡ true
-row_8b_after = refl
-
-pub rows : ℕ
-rows = 9
+the_first_call_is_still_there : has_call 3 (promised (record { channels = x ∷ []; active = [] }) 3 x x undefined 0) ≡ true
+the_first_call_is_still_there = refl

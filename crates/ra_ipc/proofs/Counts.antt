@@ -6,7 +6,7 @@ use Rattle.std.specs.List.{filter, filter_map, list_any}
 use Rattle.std.specs.Str.{bytes_eq}
 use Rattle.ra_values.specs.Tree.{Tree}
 use Rattle.ra_ipc.specs.Messages.{is_response, number_of}
-use Rattle.ra_ipc.specs.Server.{Active, waiting_call, handed_call, waiting_listen, listener, holds, is_handed, is_timed_out, cancel_one, open_one, fire_one, timeout_one}
+use Rattle.ra_ipc.specs.ChannelServers.{Active, waiting_call, handed_call, waiting_listen, listener, holds, is_handed, is_timed_out, cancel_one, open_one, fire_one, timeout_one}
 
 -- one for yes
 abbrev pub one : Bool → ℕ
@@ -123,7 +123,7 @@ fires_answer_none i ch ev body (listener id channel event ∷ held) =
       | inr f ↦ rw f (fires_answer_none i ch ev body held)
     ]
 
--- a call that is timeout_answers leaves and is answered
+-- a call that is late answers leaves and is answered
 pub late_goes : (i now : ℕ) (held : List Active) → number_of (holds_call i) (filter (λ a. not (is_timed_out now a)) held) + number_of (is_response i) (filter_map (timeout_one now) held) ≡ number_of (holds_call i) held
 late_goes i now [] = refl
 late_goes i now (waiting_call id channel name arg c until ∷ held) =

@@ -4,9 +4,9 @@ use Rattle.std.proofs.lemmas.Bool.{cases_Bool, cond_both, eq-eqb}
 use Rattle.std.specs.Prelude.{◌==◌, nat_lt}
 use Rattle.ra_values.specs.Tree.{Tree}
 use Rattle.ra_ipc.specs.Messages.{Reply, Message, opens, is_promise, is_response, number_of, promise, promise_cancel, event_listen, event_dispose, initialize, response, event_fire}
-use Rattle.ra_ipc.specs.Server.{Active, Server, waiting_call, handed_call, waiting_listen, listener, holds, is_active, is_registered, channel_wait, has_call, fires, timeout_answers, promised, listened, cancelled_at, disposed, is_listener, is_handed, is_timed_out}
-use Rattle.ra_ipc.specs.Client.{Client, is_in, sent_now, waiting_after, after_initialize}
-use Rattle.ra_ipc.specs.Pair.{Pair, Step, Outcome, message_heard, cancelled, answered, call, cancel, listen, dispose, register, complete, fire, tick, server_hears, client_hears, start, server_takes, after_server_hears, client_takes, after_client_hears, happens, run}
+use Rattle.ra_ipc.specs.ChannelServers.{Active, Server, waiting_call, handed_call, waiting_listen, listener, holds, is_active, is_registered, channel_wait, has_call, fires, timeout_answers, promised, listened, cancelled_at, disposed, is_listener, is_handed, is_timed_out}
+use Rattle.ra_ipc.specs.ChannelClients.{Client, is_in, sent_now, waiting_after, after_initialize}
+use Rattle.ra_ipc.specs.ChannelPairs.{Pair, Step, Outcome, message_heard, cancelled, answered, call, cancel, listen, dispose, register, complete, fire, tick, server_hears, client_hears, start, server_takes, after_server_hears, client_takes, after_client_hears, happens, run}
 use Rattle.ra_ipc.proofs.Counts.{one, one_most, number-append, number-push, number-map, number-filter, none_found, id_goes, below_more_one, holds_call, cancel_holds, cancel_holds_call, open_holds, open_holds_call, call_goes, fires_answer_none, late_goes}
 
 abbrev pub requests : ℕ → Pair → ℕ
@@ -33,7 +33,7 @@ start_kept = record { once = λ i. omega arith; active = λ i. omega arith; answ
 
 -- ---- the client's steps
 
--- a request goes out, or waiting_call
+-- a request goes out, or waits
 sent_or_kept : (i : ℕ) (c : Client) (m : Message) (way : List Message) → number_of (opens i) (way ++ sent_now c m) + number_of (opens i) (waiting_after c m) ≡ number_of (opens i) way + number_of (opens i) c.waiting + one (opens i m)
 sent_or_kept i c m way = elim (cases_Bool c.ready) [
   | inl t ↦ rw t (omega (arith, number-push (opens i) way m))
@@ -143,7 +143,7 @@ tick_kept p now k = record {
   apart = k.apart;
 }
 
--- ---- a message that is message_heard
+-- ---- a message that is heard
 
 -- the pair whose server is about to hear m
 abbrev hearing : Pair → Message → List Message → Pair

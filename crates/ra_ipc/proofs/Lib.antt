@@ -5,5 +5,5 @@ pub mod Counts
 pub mod Kept
 pub mod Outcomes
 pub mod Listeners
-pub mod Told
+pub mod Replies
 pub mod ChannelRows

@@ -1,4 +1,4 @@
--- What is fired for a listener, and what its client hands server_heard.
+-- What is fired for a listener, and what its client hands up.
 use Rattle.std.proofs.Common.{◌≡◌, ℕ, ◌≤◌, ◌^◌, List, [], ◌∷◌, ◌++◌, true, false, cond, ltb, Some, None, refl, sym, ap, subst, ◌∙◌, append_assoc, arith, inl, inr}
 use Rattle.std.proofs.lemmas.Bool.{cases_Bool, cond_both, eqb-true, le-ltb}
 use Rattle.std.proofs.lemmas.List.{append-nil}
@@ -8,9 +8,9 @@ use Rattle.std.specs.List.{list_any, filter_map, cons_option}
 use Rattle.std.specs.Str.{bytes_eq}
 use Rattle.ra_values.specs.Tree.{Tree}
 use Rattle.ra_ipc.specs.Messages.{Message, opens, number_of, promise, promise_cancel, event_listen, event_dispose, initialize, response, event_fire}
-use Rattle.ra_ipc.specs.Server.{Active, waiting_call, handed_call, waiting_listen, listener, holds, is_active, has_call, fire_one, fires, timeout_one, timeout_answers}
-use Rattle.ra_ipc.specs.Client.{Client, is_in, without}
-use Rattle.ra_ipc.specs.Pair.{Pair, Step, message_heard, call, cancel, listen, dispose, register, complete, fire, tick, server_hears, client_hears, start, server_takes, after_server_hears, client_takes, after_client_hears, happens, run}
+use Rattle.ra_ipc.specs.ChannelServers.{Active, waiting_call, handed_call, waiting_listen, listener, holds, is_active, has_call, fire_one, fires, timeout_one, timeout_answers}
+use Rattle.ra_ipc.specs.ChannelClients.{Client, is_in, without}
+use Rattle.ra_ipc.specs.ChannelPairs.{Pair, Step, message_heard, call, cancel, listen, dispose, register, complete, fire, tick, server_hears, client_hears, start, server_takes, after_server_hears, client_takes, after_client_hears, happens, run}
 use Rattle.ra_ipc.specs.ChannelLaws.{said_to_client, fire_body, fires_of, own_body, fired_of, IsPrefixOf, is_listening, fired_by, fired_while}
 use Rattle.ra_ipc.proofs.Counts.{one, one_most, number-push}
 use Rattle.ra_ipc.proofs.Outcomes.{in-push, in-without, or_false}
@@ -157,10 +157,10 @@ run_says i (e ∷ es) p k =
 pub fired_while_listening : (es : List Step) (i : ℕ) → fires_of i (said_to_client (run es start)) ≡ fired_while i es start
 fired_while_listening es i = run_says i es start start_kept
 
--- ---- what the client hands server_heard
+-- ---- what the client hands up
 
 record Fires (p : Pair) : Type 0 where
-  -- an id that was never message_heard fires nothing
+  -- an id that was never heard fires nothing
   unheard : (i : ℕ) → number_of (opens i) p.server_heard ≡ 0 → fires_of i (said_to_client p) ≡ []
   living : (i : ℕ) → is_in i p.client.listeners ≡ true → fired_of i p.fired ≡ fires_of i p.client_heard
   begun : (i : ℕ) → IsPrefixOf (fired_of i p.fired) (fires_of i p.client_heard)
@@ -183,7 +183,7 @@ fired-push i j body fs = filter_map-append (own_body i) fs ((j, body) ∷ []) �
 fires-push : (i j : ℕ) (body : Tree) (ms : List Message) → fires_of i (ms ++ event_fire j body ∷ []) ≡ fires_of i ms ++ cond (j == i) (body ∷ []) []
 fires-push i j body ms = filter_map-append (fire_body i) ms (event_fire j body ∷ []) ∙ elim (j == i) as (λ b. fires_of i ms ++ cons_option (cond b (Some body) None) [] ≡ fires_of i ms ++ cond b (body ∷ []) []) [ true ↦ refl | false ↦ refl ]
 
--- a message that is no fire is message_heard
+-- a message that is no fire is heard
 beside : (p : Pair) {q : Pair} (m : Message) → q.client_heard ≡ p.client_heard ++ m ∷ [] → ((i : ℕ) → fire_body i m ≡ None) → q.fired ≡ p.fired → q.client.listeners ≡ p.client.listeners → ((i : ℕ) → number_of (opens i) q.server_heard ≡ 0 → fires_of i (said_to_client q) ≡ []) → Fires p → Fires q
 beside p {q} m d other f l u s = record {
   unheard = u;
@@ -239,7 +239,7 @@ fired_past p {q} j body d f l gone u s = record {
       | inr g ↦ ap (fired_of i) f ∙ s.living i h ∙ sym (ap (fires_of i) d ∙ fires-push i j body p.client_heard ∙ rw g (append-nil (fires_of i p.client_heard)))
     ]
 
--- what the server message_heard only grows
+-- what the server heard only grows
 record Grows (p q : Pair) : Type 0 where
   server_heard : (i : ℕ) → number_of (opens i) p.server_heard ≤ number_of (opens i) q.server_heard
 

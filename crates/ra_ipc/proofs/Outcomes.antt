@@ -5,9 +5,9 @@ use Rattle.std.proofs.lemmas.List.{append-nil}
 use Rattle.std.specs.Prelude.{◌==◌, ◌||◌, nat_lt}
 use Rattle.std.specs.List.{list_any}
 use Rattle.ra_ipc.specs.Messages.{Reply, Message, promise, promise_cancel, event_listen, event_dispose, initialize, response, event_fire}
-use Rattle.ra_ipc.specs.Server.{is_active, has_call}
-use Rattle.ra_ipc.specs.Client.{is_in, without}
-use Rattle.ra_ipc.specs.Pair.{Pair, Step, Outcome, cancelled, answered, Entry, call_made, call_cancelled, message_heard, call, cancel, listen, dispose, register, complete, fire, tick, server_hears, client_hears, start, server_takes, after_server_hears, client_takes, after_client_hears, happens, run}
+use Rattle.ra_ipc.specs.ChannelServers.{is_active, has_call}
+use Rattle.ra_ipc.specs.ChannelClients.{is_in, without}
+use Rattle.ra_ipc.specs.ChannelPairs.{Pair, Step, Outcome, cancelled, answered, Entry, call_made, call_cancelled, message_heard, call, cancel, listen, dispose, register, complete, fire, tick, server_hears, client_hears, start, server_takes, after_server_hears, client_takes, after_client_hears, happens, run}
 use Rattle.ra_ipc.specs.ChannelLaws.{ends_by, or_else, first_end, is_made, outcome, settled_as}
 
 abbrev was_made : ℕ → List Entry → Bool
@@ -100,7 +100,7 @@ same i p q en ca se (unmade a b c) = unmade (ap (was_made i) en ∙ a) (ap (is_i
 same i p q en ca se (open_ a b c d) = open_ (ap (was_made i) en ∙ a) (ap (is_in i) ca ∙ b) (ap (outcome i) en ∙ c) (ap (settled_as i) se ∙ d)
 same i p q en ca se (over a b o c d) = over (ap (was_made i) en ∙ a) (ap (is_in i) ca ∙ b) o (ap (outcome i) en ∙ c) (ap (settled_as i) se ∙ d)
 
--- a call of this client is call_made
+-- a call of this client is made
 makes : (i : ℕ) (p q : Pair) → q.entries ≡ p.entries ++ call_made p.client.next ∷ [] → q.client.calls ≡ p.client.calls ++ p.client.next ∷ [] → q.settled ≡ p.settled → Standing p → Stands i q
 makes i p q en ca se st = elim (cases_Bool (p.client.next == i)) [
   | inl t ↦ mine t (st.each i)

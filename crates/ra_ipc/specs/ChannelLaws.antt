@@ -1,11 +1,11 @@
--- What holds after every list of steps.
-use Rattle.std.specs.Prelude.{◌≡◌, ℕ, ◌≤◌, List, [], ◌∷◌, Bool, false, ◌++◌, ◌==◌, ◌&&◌, ◌⊎◌, Option, Some, None, if◌then◌else◌}
+-- What holds of a channel client and a channel server after every list of steps.
+use Rattle.std.specs.Prelude.{◌≡◌, ℕ, ◌≤◌, List, [], ◌∷◌, Bool, false, ◌++◌, ◌==◌, ◌&&◌, Option, Some, None, if◌then◌else◌}
 use Rattle.std.specs.List.{list_any, filter_map}
 use Rattle.std.specs.Str.{bytes_eq}
 use Rattle.ra_values.specs.Tree.{Tree}
 use Rattle.ra_ipc.specs.Messages.{Reply, Message, is_promise, is_response, number_of, response, event_fire}
-use Rattle.ra_ipc.specs.Server.{unknown_channel, Server, Active, waiting_call, handed_call, waiting_listen, listener}
-use Rattle.ra_ipc.specs.Pair.{Pair, Step, Outcome, cancelled, answered, Entry, call_made, call_cancelled, message_heard, complete, fire, start, happens, run}
+use Rattle.ra_ipc.specs.ChannelServers.{Server, has_call, timeout_answers, Active, waiting_call, handed_call, waiting_listen, listener}
+use Rattle.ra_ipc.specs.ChannelPairs.{Pair, Step, Outcome, cancelled, answered, Entry, call_made, call_cancelled, message_heard, complete, fire, tick, start, happens, run}
 
 -- all that the server said to the client
 abbrev pub said_to_client : Pair → List Message
@@ -15,7 +15,7 @@ said_to_client p = p.client_heard ++ p.to_client
 abbrev pub SettlesOnce : Type 0
 SettlesOnce = (steps : List Step) (i : ℕ) → number_of (λ (s : ℕ × Outcome). s.0 == i) (run steps start).settled ≤ 1
 
--- Each call that was message_heard is answered at most once, and no other call is answered.
+-- Each call that was heard is answered at most once, and no other call is answered.
 abbrev pub AnsweredOnce : Type 0
 AnsweredOnce = (steps : List Step) (i : ℕ) →
     (number_of (is_response i) (said_to_client (run steps start)) ≤ number_of (is_promise i) (run steps start).server_heard) × (number_of (is_promise i) (run steps start).server_heard ≤ 1)
@@ -51,7 +51,7 @@ abbrev pub outcome : ℕ → List Entry → Option Outcome
 outcome i [] = None
 outcome i (e ∷ es) = if is_made i e then first_end i es else outcome i es
 
--- what was handed_call server_heard for the call
+-- what was handed up for the call
 abbrev pub settled_as : ℕ → List (ℕ × Outcome) → Option Outcome
 settled_as i [] = None
 settled_as i (s ∷ ss) = if s.0 == i then Some s.1 else settled_as i ss
@@ -73,14 +73,14 @@ fires_of i ms = filter_map (fire_body i) ms
 abbrev pub own_body : ℕ → ℕ × Tree → Option Tree
 own_body i f = if f.0 == i then Some f.1 else None
 
--- the bodies that the client handed_call server_heard for it
+-- the bodies that the client handed up for it
 abbrev pub fired_of : ℕ → List (ℕ × Tree) → List Tree
 fired_of i fs = filter_map (own_body i) fs
 
 abbrev pub IsPrefixOf : List Tree → List Tree → Type 0
 IsPrefixOf xs ys = (rest : List Tree) × (xs ++ rest ≡ ys)
 
--- What the client hands server_heard for a listener begins what the server said to it.
+-- What the client hands up for a listener begins what the server said to it.
 abbrev pub FiresInOrder : Type 0
 FiresInOrder = (steps : List Step) (i : ℕ) → IsPrefixOf (fired_of i (run steps start).fired) (fires_of i (said_to_client (run steps start)))
 
@@ -105,11 +105,25 @@ FiredWhileListening = (steps : List Step) (i : ℕ) → fires_of i (said_to_clie
 
 -- ---- whose answer
 
-abbrev pub Has : {X : Type 0} → X → List X → Type 0
-Has x [] = ⊥
-Has x (y ∷ ys) = (y ≡ x) ⊎ Has x ys
+abbrev pub reply_of : ℕ → Message → Option Reply
+reply_of i (response id reply) = if id == i then Some reply else None
+reply_of i _ = None
 
--- An answer is the one that was client_takes for its id, or says that the channel is unknown.
-abbrev pub AnswersAreTold : Type 0
-AnswersAreTold = (steps : List Step) (i : ℕ) (r : Reply) → Has (response i r) (said_to_client (run steps start)) →
-    Has (complete i r) steps ⊎ ((channel : List ℕ) × (r ≡ unknown_channel channel))
+-- the replies of these messages to the call
+abbrev pub replies_of : ℕ → List Message → List Reply
+replies_of i ms = filter_map (reply_of i) ms
+
+-- what one step answers to the call: the reply that is told while the call is handed out, or that its channel is unknown
+abbrev pub answered_by : ℕ → Step → Server → List Reply
+answered_by i (complete id reply) s = if has_call id s then replies_of i (response id reply ∷ []) else []
+answered_by i (tick now) s = replies_of i (timeout_answers s now)
+answered_by i _ s = []
+
+-- what all steps answer to the call, in order
+abbrev pub answered_while : ℕ → List Step → Pair → List Reply
+answered_while i [] p = []
+answered_while i (e ∷ es) p = answered_by i e p.server ++ answered_while i es (happens p e)
+
+-- The replies that the server said to a call are these.
+abbrev pub AnsweredAsTold : Type 0
+AnsweredAsTold = (steps : List Step) (i : ℕ) → replies_of i (said_to_client (run steps start)) ≡ answered_while i steps start

@@ -5,7 +5,7 @@ pub mod ReadMessage
 pub mod View
 pub mod Heads
 pub mod FaultTexts
-pub mod Server
-pub mod Client
-pub mod Pair
+pub mod ChannelServers
+pub mod ChannelClients
+pub mod ChannelPairs
 pub mod ChannelLaws

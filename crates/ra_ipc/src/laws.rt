@@ -1,5 +1,5 @@
 //! The law of the format of packets, apart from its reader and its writer, and the law over both ends of a session's channels.
-ghost use Rattle.ra_ipc.specs.ChannelLaws.{AnswersAreTold, SettlesOnce, SettlesByItsOwn, AnsweredOnce, NeverClashes, FiresInOrder, FiredWhileListening};
+ghost use Rattle.ra_ipc.specs.ChannelLaws.{AnsweredAsTold, SettlesOnce, SettlesByItsOwn, AnsweredOnce, NeverClashes, FiresInOrder, FiredWhileListening};
 ghost use Rattle.ra_ipc.specs.Laws.{EachIsSpelled, OthersAreNotSpelled, NoneBeginsAnother, SpelledIsRead};
 
 /// Each message that fits has exactly one spelling, any other has none, no spelling begins another, and a spelling is read as
@@ -17,7 +17,7 @@ pub fn channels()
     ensures settled { SettlesOnce }
     ensures own { SettlesByItsOwn }
     ensures answered { AnsweredOnce }
-    ensures told { AnswersAreTold }
+    ensures told { AnsweredAsTold }
     ensures fires { FiresInOrder }
     ensures fired { FiredWhileListening }
     ensures apart { NeverClashes }

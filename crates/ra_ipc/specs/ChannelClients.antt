@@ -8,7 +8,7 @@ pub record Client : Type 0 where
   pub next : ℕ
   -- whether Initialize came
   pub ready : Bool
-  -- requests that wait for it, in the order in which they were call_made
+  -- requests that wait for it, in the order in which they were made
   pub waiting : List Message
   -- unsettled calls, and living listeners
   pub calls : List ℕ
@@ -23,7 +23,7 @@ without i ids = filter (λ id. not (id == i)) ids
 abbrev pub is_in : ℕ → List ℕ → Bool
 is_in i ids = list_any (λ id. id == i) ids
 
--- what goes out now, and what waiting_call
+-- what goes out now, and what waits
 abbrev pub sent_now : Client → Message → List Message
 sent_now c m = if c.ready then m ∷ [] else []
 
@@ -36,7 +36,7 @@ after_call c m = record { next = c.next + 1; ready = c.ready; waiting = waiting_
 abbrev pub after_listen : Client → Message → Client
 after_listen c m = record { next = c.next + 1; ready = c.ready; waiting = waiting_after c m; calls = c.calls; listeners = c.listeners ++ c.next ∷ [] }
 
--- a request that still waiting_call goes still_unsent
+-- a request that still waits goes unsent
 abbrev pub still_unsent : Client → ℕ → List Message
 still_unsent c i = filter (λ m. not (opens i m)) c.waiting
 

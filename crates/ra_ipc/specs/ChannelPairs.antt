@@ -1,16 +1,16 @@
--- A client and a server, and the messages between them, of which a front has been message_heard each way.
+-- A client and a server, and the messages between them, of which a front has been heard each way.
 use Rattle.std.specs.Prelude.{ℕ, ◌^◌, List, [], ◌∷◌, ◌++◌, Bool, true, false, nat_lt, if◌then◌else◌}
 use Rattle.ra_values.specs.Tree.{Tree}
 use Rattle.ra_ipc.specs.Messages.{Reply, Message, promise, promise_cancel, event_listen, event_dispose, initialize, response, event_fire}
-use Rattle.ra_ipc.specs.Server.{Server, is_active, promised, cancelled_at, listened, disposed, registered, has_call, completed, fires, ticked, timeout_answers}
-use Rattle.ra_ipc.specs.Client.{Client, new_client, is_in, sent_now, after_call, after_listen, after_cancel, after_dispose, after_initialize, after_response}
+use Rattle.ra_ipc.specs.ChannelServers.{Server, is_active, promised, cancelled_at, listened, disposed, registered, has_call, completed, fires, ticked, timeout_answers}
+use Rattle.ra_ipc.specs.ChannelClients.{Client, new_client, is_in, sent_now, after_call, after_listen, after_cancel, after_dispose, after_initialize, after_response}
 
 -- how a call ended
 pub data Outcome : Type 0 where
   cancelled : Outcome
   answered : Reply → Outcome
 
--- What the client did and message_heard: a call call_made, a call cancelled, a message message_heard.
+-- What the client did and heard: a call made, a call cancelled, a message heard.
 pub data Entry : Type 0 where
   call_made : (id : ℕ) → Entry
   call_cancelled : (id : ℕ) → Entry
@@ -19,14 +19,14 @@ pub data Entry : Type 0 where
 pub record Pair : Type 0 where
   pub client : Client
   pub server : Server
-  -- said by the client: message_heard by the server, and on the way
+  -- said by the client: heard by the server, and on the way
   pub server_heard : List Message
   pub to_server : List Message
-  -- said by the server: message_heard by the client, and on the way
+  -- said by the server: heard by the client, and on the way
   pub client_heard : List Message
   pub to_client : List Message
   pub entries : List Entry
-  -- what the client handed_call server_heard
+  -- what the client handed up
   pub settled : List (ℕ × Outcome)
   pub fired : List (ℕ × Tree)
   -- an active id came again
@@ -41,7 +41,7 @@ pub data Step : Type 0 where
   complete : (id : ℕ) (reply : Reply) → Step
   fire : (channel event : List ℕ) (body : Tree) → Step
   tick : (now : ℕ) → Step
-  -- the next message on the way is message_heard
+  -- the next message on the way is heard
   server_hears : (now : ℕ) → Step
   client_hears : Step
 
@@ -59,7 +59,7 @@ start = record {
   clashed = false;
 }
 
--- ids go server_heard to 2 ^ 31 - 1
+-- ids go up to 2 ^ 31 - 1
 abbrev pub client_requests : Pair → Client → Message → List Entry → Pair
 client_requests p c m es = if nat_lt p.client.next (2 ^ 31) then record p { client = c; to_server = p.to_server ++ sent_now p.client m; entries = p.entries ++ es } else p
 

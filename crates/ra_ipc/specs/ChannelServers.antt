@@ -6,7 +6,7 @@ use Rattle.json.specs.Print.{escape}
 use Rattle.ra_values.specs.Tree.{Tree, object}
 use Rattle.ra_ipc.specs.Messages.{Reply, error, Message, response, event_fire}
 
--- A call that waiting_call for its channel, one that was handed_call out, a listen that waiting_call, and a listener.
+-- A call that waits for its channel, one that was handed out, a listen that waits, and a listener.
 pub data Active : Type 0 where
   waiting_call : (id : ℕ) (channel name : List ℕ) (arg : Tree) (cancelled : Bool) (until : ℕ) → Active
   handed_call : (id : ℕ) → Active
@@ -37,7 +37,7 @@ is_active i s = list_any (holds i) s.active
 abbrev pub is_registered : List ℕ → Server → Bool
 is_registered channel s = list_any (bytes_eq channel) s.channels
 
--- how long a request waiting_call for its channel, in milliseconds
+-- how long a request waits for its channel, in milliseconds
 abbrev pub channel_wait : ℕ
 channel_wait = 1000
 
@@ -54,7 +54,7 @@ abbrev pub promised_call : Server → ℕ → List ℕ → List ℕ → Tree →
 promised_call s id channel name arg =
     if is_registered channel s then Some (record { id = id; channel = channel; name = name; arg = arg; cancelled = false }) else None
 
--- ---- a PromiseCancel: it marks a call that waiting_call
+-- ---- a PromiseCancel: it marks a call that waits
 
 abbrev pub cancel_one : ℕ → Active → Active
 cancel_one i (waiting_call id channel name arg cancelled until) = waiting_call id channel name arg (if id == i then true else cancelled) until
@@ -71,7 +71,7 @@ abbrev pub listened : Server → ℕ → List ℕ → List ℕ → ℕ → Serve
 listened s id channel event now =
     if is_registered channel s then with_active s (listener id channel event) else with_active s (waiting_listen id channel event (now + channel_wait))
 
--- ---- an EventDispose: it ends the listener, or the listen that waiting_call
+-- ---- an EventDispose: it ends the listener, or the listen that waits
 
 abbrev pub is_listener : ℕ → Active → Bool
 is_listener i (waiting_call id channel name arg cancelled until) = false
@@ -104,7 +104,7 @@ registered s channel =
 abbrev pub registered_calls : Server → List ℕ → List Call
 registered_calls s channel = if is_registered channel s then [] else filter_map (call_one channel) s.active
 
--- ---- an answer to a call that was handed_call out
+-- ---- an answer to a call that was handed out
 
 abbrev pub is_handed : ℕ → Active → Bool
 is_handed i (waiting_call id channel name arg cancelled until) = false
