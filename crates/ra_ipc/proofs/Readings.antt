@@ -5,7 +5,6 @@ use Rattle.std.proofs.lemmas.Bool.{cases_Bool}
 use Rattle.std.proofs.lemmas.List.{drop_all, length-drop}
 use Rattle.ra_values.specs.Tree.{Tree}
 use Rattle.ra_values.specs.Spelling.{levels}
-use Rattle.ra_values.specs.Reading.{Read}
 use Rattle.ra_values.specs.ReadValue.{value_at}
 use Rattle.ra_ipc.specs.Messages.{Message}
 use Rattle.ra_ipc.specs.declared.fault.PacketFault.{PacketFault}

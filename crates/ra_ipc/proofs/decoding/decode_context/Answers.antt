@@ -1,6 +1,5 @@
-use Rattle.std.proofs.Common.{◌≡◌, ◌+◌, ℕ, length, drop, take, Err, ap, ◌∙◌, arith}
+use Rattle.std.proofs.Common.{ℕ, drop, take, Err, ap, ◌∙◌, arith}
 use Rattle.std.proofs.lemmas.Result.{err_from_is_err_and}
-use Rattle.std.proofs.lemmas.List.{take_all}
 use Rattle.ra_values.specs.View.{tree}
 use Rattle.ra_values.specs.Spelling.{levels}
 use Rattle.ra_values.proofs.Once.{spelled_fits}

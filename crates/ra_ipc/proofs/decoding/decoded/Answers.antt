@@ -1,9 +1,6 @@
-use Rattle.std.proofs.Common.{◌≡◌, ◌+◌, length, drop, arith}
+use Rattle.std.proofs.Common.{drop, arith}
 use Rattle.std.proofs.lemmas.Result.{err_from_is_err_and}
-use Rattle.std.proofs.lemmas.List.{length-drop}
 use Rattle.ra_values.specs.View.{tree}
-use Rattle.ra_ipc.specs.View.{message}
-use Rattle.ra_ipc.specs.ReadMessage.{Reads}
 use Rattle.ra_ipc.proofs.Readings.{at_header, behind_header}
 use Rattle.ra_ipc.proofs.Spelled.{whole_found}
 use Rattle.ra_ipc.proofs.decoding.decoded.Goals as goal

@@ -1,4 +1,4 @@
-use Rattle.std.proofs.Common.{◌≡◌, length, drop, sym, ap, ◌∙◌, arith, Err}
+use Rattle.std.proofs.Common.{sym, ap, ◌∙◌, arith, Err}
 use Rattle.std.proofs.lemmas.Result.{err_from_is_err_and}
 use Rattle.ra_values.specs.View.{tree}
 use Rattle.ra_ipc.proofs.HeadFits.{is_header}
