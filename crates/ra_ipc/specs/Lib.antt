@@ -8,4 +8,5 @@ pub mod FaultTexts
 pub mod ChannelServers
 pub mod ChannelClients
 pub mod ChannelPairs
+pub mod ChannelPackets
 pub mod ChannelLaws
