@@ -112,3 +112,18 @@ keys_without i (e ∷ es) = elim (cases_Bool (e.0 == i)) [
 pub last_goes : (n : ℕ) (ks : List ℕ) → AllByRecursion (λ id. id < n) ks → without n (ks ++ n ∷ []) ≡ ks
 last_goes n [] h = rw (eq-eqb n n refl) refl
 last_goes n (k ∷ ks) h = let ne : (k == n) ≡ false = ne_eqb k n (omega (arith, h.0)) in rw ne (ap (λ (w : List ℕ). k ∷ w) (last_goes n ks h.1))
+
+-- the ids before another
+all_front : {X : Type 0} (P : ℕ → Type 0) (xs : List (ℕ × X)) (e : ℕ × X) (ys : List (ℕ × X)) → AllByRecursion P (keys_of (xs ++ e ∷ ys)) → AllByRecursion P (keys_of xs) × P e.0
+all_front P [] e ys h = (tt, h.0)
+all_front P (x ∷ xs) e ys h = let rest = all_front P xs e ys h.1 in ((h.0, rest.0), rest.1)
+
+ids_front : {X : Type 0} (xs : List (ℕ × X)) (e : ℕ × X) (ys : List (ℕ × X)) → Ascending (keys_of (xs ++ e ∷ ys)) → AreIds e.0 (keys_of xs)
+ids_front [] e ys h = record { ascending = tt; below = tt }
+ids_front (x ∷ xs) e ys h =
+    let first = all_front (λ other. x.0 < other) xs e ys h.0 in
+    let rest = ids_front xs e ys h.1 in
+    record { ascending = (first.0, rest.ascending); below = (first.1, rest.below) }
+
+pub ids_before : {X : Type 0} (xs : List (ℕ × X)) (e : ℕ × X) (ys all : List (ℕ × X)) → xs ++ e ∷ ys ≡ all → Ascending (keys_of all) → AreIds e.0 (keys_of xs)
+ids_before xs e ys all same h = ids_front xs e ys (subst (λ w. Ascending (keys_of w)) (sym same) h)

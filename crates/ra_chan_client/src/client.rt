@@ -2,6 +2,7 @@
 ghost use Rattle.std.specs.Prelude.{◌≡◌, IfOk};
 ghost use Rattle.ra_ipc.specs.ChannelClients.{new_client};
 
+use crate::waiting;
 use ra_ipc::Packet;
 use ra_values::NoMemory;
 use std::alloc::Global;
@@ -46,5 +47,18 @@ impl ChannelClient {
             calls: BTreeSet::new(alloc),
             listeners: BTreeSet::new(alloc),
         }
+    }
+
+    /// An equal client.
+    pub fn copy(&self, alloc: Global) -> Result<ChannelClient, NoMemory>
+        ensures { IfOk result (λ c. c ≡ self.now) }
+    {
+        Ok(ChannelClient {
+            next: self.next,
+            ready: self.ready,
+            waiting: waiting::copied(alloc, &self.waiting)?,
+            calls: self.calls.clone()?,
+            listeners: self.listeners.clone()?,
+        })
     }
 }

@@ -8,8 +8,7 @@ ghost use Rattle.ra_chan_client.specs.View.{notice, NoticeFits};
 
 use crate::client::ChannelClient;
 use crate::fault::ClientFault;
-use crate::ids;
-use crate::waiting;
+use crate::{ids, waiting};
 use ra_ipc::{Answer, Packet};
 use ra_values::Value;
 use std::alloc::Global;

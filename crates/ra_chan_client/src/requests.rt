@@ -10,8 +10,7 @@ ghost use Rattle.ra_chan_client.specs.View.{RequestFits, if_ready};
 
 use crate::client::ChannelClient;
 use crate::fault::ClientFault;
-use crate::ids;
-use crate::waiting;
+use crate::{ids, waiting};
 use ra_ipc::Packet;
 use ra_values::{NoMemory, Text, Value};
 use std::collections::{BTreeMap, BTreeSet};
@@ -111,7 +110,13 @@ impl ChannelClient {
             name: event,
             arg,
         };
-        let packet = begin(&mut self.listeners, &mut self.waiting, self.ready, id, packet)?;
+        let packet = begin(
+            &mut self.listeners,
+            &mut self.waiting,
+            self.ready,
+            id,
+            packet,
+        )?;
         self.next = id + 1;
         Ok(Issued {
             id: id.cast_signed(),

@@ -2,12 +2,23 @@
 ghost use Rattle.std.specs.Prelude.{◌≡◌, ◌≤◌, ◌+◌, ◌++◌, ◌∷◌, [], ℕ, length, not, ◌==◌, Some, None, if◌then◌else◌, IfOk, OnOk, OnErr, vec_len, vec_capacity};
 ghost use Rattle.std.specs.List.{filter};
 ghost use Rattle.std.specs.Map.{keys_of, values_of};
-ghost use Rattle.ra_chan_client.specs.Held.{AreIds};
+ghost use Rattle.ra_chan_client.specs.Held.{Ascending, AreIds};
 
 use ra_ipc::Packet;
 use ra_values::NoMemory;
 use std::alloc::Global;
 use std::collections::BTreeMap;
+
+/// Adds a request under an id above all others.
+fn add(waiting: &mut BTreeMap<u32, Packet>, id: u32, packet: Packet) -> Result<(), NoMemory>
+    requires { AreIds id (keys_of waiting.old.entries) }
+    ensures ok { OnOk result (waiting.new.entries ≡ waiting.old.entries ++ (id, packet) ∷ []) }
+    ensures ids { OnOk result (AreIds (id + 1) (keys_of waiting.new.entries)) }
+    ensures err { OnErr result (waiting.new.entries ≡ waiting.old.entries) }
+{
+    waiting.insert(id, packet)?;
+    Ok(())
+}
 
 /// The packet, if the server is ready. Else it is kept under its id, which is above all others.
 pub fn sent(
@@ -25,7 +36,7 @@ pub fn sent(
     if ready {
         return Ok(Some(packet));
     }
-    waiting.insert(id, packet)?;
+    add(waiting, id, packet)?;
     Ok(None)
 }
 
@@ -48,10 +59,7 @@ fn put(packets: &mut Vec<Packet>, packet: Packet)
 }
 
 /// Takes out all requests, in the order of their ids.
-pub fn drain(
-    alloc: Global,
-    waiting: &mut BTreeMap<u32, Packet>,
-) -> Result<Vec<Packet>, NoMemory>
+pub fn drain(alloc: Global, waiting: &mut BTreeMap<u32, Packet>) -> Result<Vec<Packet>, NoMemory>
     ensures items { IfOk result (λ packets. packets.items ≡ values_of waiting.old.entries) }
     ensures ok { OnOk result (waiting.new.entries ≡ []) }
     ensures err { OnErr result (waiting.new.entries ≡ waiting.old.entries) }
@@ -61,4 +69,19 @@ pub fn drain(
         put(&mut packets, packet);
     }
     Ok(packets)
+}
+
+/// Equal requests under the same ids.
+pub fn copied(
+    alloc: Global,
+    waiting: &BTreeMap<u32, Packet>,
+) -> Result<BTreeMap<u32, Packet>, NoMemory>
+    requires { Ascending (keys_of waiting.now.entries) }
+    ensures { IfOk result (λ copy. copy.entries ≡ waiting.now.entries) }
+{
+    let mut copy = BTreeMap::new(alloc);
+    for (id, packet) in waiting.iter() {
+        add(&mut copy, *id, packet.copy(alloc)?)?;
+    }
+    Ok(copy)
 }

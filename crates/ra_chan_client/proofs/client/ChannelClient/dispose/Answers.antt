@@ -26,8 +26,8 @@ returns-clause-after c =
     let same-2 : c.cast_unsigned-2.result ≡ id_of c.args.id = c.cast_unsigned-2.ensures ∙ ap (of_z w32) back in
     let left : c.take.new.ids.keys ≡ without (id_of c.args.id) c.self.inside.listeners.keys = (c.take.ensures.left c.self.inside.next c.self.invariant.listener_ids).0 ∙ ap (λ (i : ℕ). without i c.self.inside.listeners.keys) same in
     let kept : messages c.forget.new.waiting.entries ≡ filter (λ m. not (opens (id_of c.args.id) m)) (messages c.self.inside.waiting.entries) =
-        ap messages (c.forget.ensures c.self.inside.next c.self.invariant.waiting_ids).0
-        ∙ messages_without c.cast_unsigned-2.result c.self.inside.waiting.entries c.self.invariant.requests
-        ∙ ap (λ (i : ℕ). filter (λ m. not (opens i m)) (messages c.self.inside.waiting.entries)) same-2 in
+    ap messages (c.forget.ensures c.self.inside.next c.self.invariant.waiting_ids).0
+    ∙ messages_without c.cast_unsigned-2.result c.self.inside.waiting.entries c.self.invariant.requests
+    ∙ ap (λ (i : ℕ). filter (λ m. not (opens i m)) (messages c.self.inside.waiting.entries)) same-2 in
     same_parts c.self.inside.next c.self.inside.ready _ _ c.self.inside.calls.keys c.self.inside.calls.keys _ _ kept refl left
     ∙ ap (λ (v : Client). after_dispose v (id_of c.args.id)) c.self.view_is
