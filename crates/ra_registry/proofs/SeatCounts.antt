@@ -1,6 +1,6 @@
 -- The seats that are not spent, and how many entries of each kind a legal history has.
 use Rattle.std.proofs.Common.{◌≡◌, ℕ, zero, ◌<◌, ◌+◌, ◌≤◌, Bool, true, false, cond, ◌&&◌, ◌||◌, eqb, List, [], ◌∷◌, ◌++◌, length, arith, refl, sym, ap, ◌∙◌}
-use borrow.Author.Tests.{eqb-true}
+use borrow.Author.Tests.{eqb-true, eq-eqb}
 use Rattle.std.specs.List.{count_by, list_any}
 use Rattle.std.specs.Set.{remove_key}
 use Rattle.std.proofs.lemmas.List.Sums.{fold-append, sum_by-cons}
@@ -14,7 +14,7 @@ use Rattle.ra_registry.specs.RegistryStates.{RegistryState, with_entry}
 use Rattle.ra_registry.specs.Rows.{same_key}
 use Rattle.ra_registry.specs.Seats.{admissions, endings, given, spent, IsUnspent, admits, ends, is_of}
 use Rattle.ra_registry.specs.Legal.{IsLegal, Allows, Fits}
-use Rattle.ra_registry.proofs.SameKeys.{same_key_is}
+use Rattle.ra_registry.proofs.SameKeys.{same_key_is, same_key_itself}
 use Rattle.ra_registry.proofs.LegalHistories.{each_legal, legal_push}
 
 -- one more element
@@ -143,3 +143,14 @@ some_left r seat legal left =
     let p = pushing r.history entry in
     let within = ends_within (with_entry r entry) (legal_push r entry legal left) in
     omega (arith, p.0, p.1, within)
+
+-- a seat that was just given is not spent
+pub just_given : (r : RegistryState) (key : Key) (epoch at : ℕ) (reconnection : Bool) → IsLegal r
+    → IsUnspent (record { key = key; epoch = epoch }) (r.history ++ record { at = at; key = key; did = Admitted epoch reconnection } ∷ [])
+just_given r key epoch at reconnection legal =
+    let seat : Seat = record { key = key; epoch = epoch } in
+    let entry : Past = record { at = at; key = key; did = Admitted epoch reconnection } in
+    let p = pushing r.history entry in
+    let own : is_of seat entry ≡ true = rw (same_key_itself key, eq-eqb epoch epoch refl) refl in
+    let one : given seat (r.history ++ entry ∷ []) ≡ given seat r.history + 1 = p.2 seat ∙ ap (λ b. given seat r.history + cond b 1 0) own in
+    omega (arith, p.3 seat, one, spent_within r seat legal)

@@ -84,3 +84,10 @@ Admits before ask at (Err (faults.Refused reason)) after =
     (admission_refusal before ask at ≡ Some reason) × (after ≡ with_entry before (refusal_entry ask at reason))
 Admits before ask at (Err faults.KeepFault) after = after ≡ before
 Admits before ask at (Err faults.NoMemory) after = after ≡ before
+
+-- the answer is no refusal
+abbrev pub IsNotRefused : Result Seat AdmitFault → Type 0
+IsNotRefused (Ok seat) = Unit {0}
+IsNotRefused (Err (faults.Refused reason)) = ⊥
+IsNotRefused (Err faults.KeepFault) = Unit {0}
+IsNotRefused (Err faults.NoMemory) = Unit {0}

@@ -1,5 +1,5 @@
 -- What a keeper holds of a registry.
-use Rattle.std.specs.Prelude.{◌≡◌, ℕ, List, [], ◌∷◌, ◌++◌, Option, Some, Result, Ok, Err, ◌≤◌}
+use Rattle.std.specs.Prelude.{◌≡◌, ℕ, List, [], ◌∷◌, ◌++◌, Option, Some, option_map, Result, Ok, Err, ◌≤◌}
 use Rattle.std.specs.List.{flat_map}
 use Rattle.ra_base.specs.declared.key.Key.{Key}
 use Rattle.ra_base.specs.declared.key.Seat.{Seat}
@@ -27,6 +27,11 @@ records_of history = flat_map (λ entry. kept_of entry.key entry.at entry.did) h
 -- the keeper tells the start records, and then those of the history
 abbrev pub IsKept : Option (List Record) → RegistryState → Type 0
 IsKept told registry = told ≡ Some (registry.start ++ records_of registry.history)
+
+-- the keeper's list has one record more where a seat was given, and else is as before
+abbrev pub Keeps : Result Seat AdmitFault → ℕ → Option (List Record) → Option (List Record) → Type 0
+Keeps (Ok seat) at before after = after ≡ option_map (λ list. list ++ record { key = seat.key; epoch = seat.epoch; at = at } ∷ []) before
+Keeps (Err fault) at before after = after ≡ before
 
 -- the answer is that the keeper failed
 abbrev pub OnKeepFault : {T : Type 0} → Result T AdmitFault → Type 0 → Type 0

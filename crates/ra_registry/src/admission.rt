@@ -1,5 +1,5 @@
 //! Who is admitted: the verdict on a request that has passed its handshake, and its entry.
-ghost use Rattle.std.specs.Prelude.{◌≡◌, ◌≢◌, ◌<◌, ◌+◌, ◌^◌, true, false, Some, None, is_some, OnOk, OnErr};
+ghost use Rattle.std.specs.Prelude.{◌≡◌, ◌≢◌, ◌<◌, ◌+◌, ◌^◌, true, false, Some, None, is_some, IfOk, OnOk, OnErr};
 ghost use Rattle.ra_base.specs.declared.kind.Kind.TheVariants as kinds;
 ghost use Rattle.ra_registry.specs.Admission as spec;
 ghost use Rattle.ra_registry.specs.Rows as rows_spec;
@@ -37,7 +37,8 @@ fn next_epoch(row: Option<Row>) -> u64
 impl Registry {
     ghost use Rattle.ra_registry.specs.Rows.{row_of};
     ghost use Rattle.ra_registry.specs.RegistryStates.{with_entry};
-    ghost use Rattle.ra_registry.specs.KeptRecords.{IsKept, HasKeepCause};
+    ghost use Rattle.ra_registry.specs.Seats.{IsUnspent};
+    ghost use Rattle.ra_registry.specs.KeptRecords.{IsKept, Keeps, HasKeepCause};
 
     /// Whether the session of this kind and token has a row.
     fn has_row(&self, kind: Kind, token: &Token) -> bool
@@ -121,7 +122,8 @@ impl Registry {
         requires kind { ask.now.kind ≢ Some kinds.Tunnel }
         requires moment { at < 2 ^ 53 }
         ensures answered { spec.Admits self.old ask.now at result self.new }
-        ensures kept { IsKept (R.told keeper.old) self.old → IsKept (R.told keeper.new) self.new }
+        ensures seat { IfOk result (λ seat. IsUnspent seat self.new.history) }
+        ensures told { Keeps result at (R.told keeper.old) (R.told keeper.new) }
         ensures cause { HasKeepCause (R.faults keeper.old) (R.faults keeper.new) result }
     {
         let room = self.seats + self.open_keys.len() + 3;
@@ -171,7 +173,8 @@ impl Registry {
         requires kind { ask.now.kind ≢ Some kinds.Tunnel }
         requires moment { at < 2 ^ 53 }
         ensures answered { spec.Admits self.old ask.now at result self.new }
-        ensures kept { IsKept (R.told keeper.old) self.old → IsKept (R.told keeper.new) self.new }
+        ensures seat { IfOk result (λ seat. IsUnspent seat self.new.history) }
+        ensures told { Keeps result at (R.told keeper.old) (R.told keeper.new) }
         ensures cause { HasKeepCause (R.faults keeper.old) (R.faults keeper.new) result }
     {
         let room = self.seats + self.open_keys.len() + 3;
@@ -219,6 +222,11 @@ impl Registry {
     ) -> Result<Seat, AdmitFault>
         requires { ask.kind ≢ Some kinds.Tunnel }
         ensures answered { spec.Admits self.old ask now result self.new }
+        ensures seat { IfOk result (λ seat. IsUnspent seat self.new.history) }
+        ensures reconnected { is_some ask.kind ≡ true → ask.reconnection ≡ true → spec.can_reconnect self.old ask now ≡ true
+            → spec.IsNotRefused result }
+        // the keeper gets the record of an acceptance, and of no other answer
+        ensures told { Keeps result now (R.told keeper.old) (R.told keeper.new) }
         ensures kept { IsKept (R.told keeper.old) self.old → IsKept (R.told keeper.new) self.new }
         ensures cause { HasKeepCause (R.faults keeper.old) (R.faults keeper.new) result }
     {

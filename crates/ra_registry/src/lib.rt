@@ -12,6 +12,8 @@ pub mod registry;
 pub mod row;
 mod rows;
 mod start;
+#[cfg(test)]
+mod tests;
 
 pub use fault::AdmitFault;
 pub use past::{Did, Past};

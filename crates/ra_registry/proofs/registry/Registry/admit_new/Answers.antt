@@ -13,6 +13,7 @@ use Rattle.ra_registry.proofs.SameKeys.{same_key_itself}
 use Rattle.ra_registry.proofs.TableLemmas.{row_undone, key_undone}
 use Rattle.ra_registry.proofs.Accepted.{accepted_new, new_entry, new_seat}
 use Rattle.ra_registry.proofs.Entered.{admitted_consistent, new_rows, undone_consistent}
+use Rattle.ra_registry.proofs.SeatCounts.{just_given}
 use Rattle.ra_registry.proofs.registry.Registry.admit_new.Goals as goal
 
 pub add_row-requires-clause-row : goal.add_row-requires-clause-row
@@ -74,3 +75,7 @@ returns-clause-answered g c =
       rw c.key_of-key.ensures (sym (new_seat _ ask none)),
       rw (c.enter_request.ensures.history, c.reserve.ensures.items, c.same-2.ensures, c.key_of-key.ensures, ← new_entry _ ask at none c.requires.new) refl,
     )
+
+pub returns-clause-seat : goal.returns-clause-seat
+returns-clause-seat g c =
+    rw (c.enter_request.ensures.history, c.reserve.ensures.items, c.same-2.ensures) (just_given _ c.key_of-key.result _ c.args.at _ c.self.invariant.legal)

@@ -11,6 +11,7 @@ use Rattle.ra_registry.specs.Admission.{admission_refusal, admission_entry, key_
 use Rattle.ra_registry.proofs.Accepted.{accepted_again, again_open, later_entry}
 use Rattle.ra_registry.proofs.Epochs.{next_is, open_epoch}
 use Rattle.ra_registry.proofs.Entered.{admitted_consistent, later_rows, stays_open, still_there}
+use Rattle.ra_registry.proofs.SeatCounts.{just_given}
 use Rattle.ra_registry.proofs.registry.Registry.reconnect.Goals as goal
 
 pub next_epoch-epoch-requires : goal.next_epoch-epoch-requires
@@ -65,3 +66,7 @@ invariant_of-self-2 g c =
     c.enter_request.new.rows c.set_row.new.rows (rw c.reserve.ensures.items at c.enter_request.ensures.rows) sets)
     (stays_open _ _ _ _ _ _ c.self.invariant (key_of ask) opened)
     (omega (arith, c.self.inside.history.ok.0, c.len.ensures.len, c.reserve.ensures.len, c.in_ok-reserve.ensures.ok, c.enter_request.ensures.capacity)))
+
+pub returns-clause-seat : goal.returns-clause-seat
+returns-clause-seat g c =
+    rw (c.enter_request.ensures.history, c.reserve.ensures.items, c.same-2.ensures) (just_given _ c.key_of-key.result _ c.args.at _ c.self.invariant.legal)
