@@ -10,3 +10,4 @@ pub mod StartRows
 pub mod Accepted
 pub mod Expiries
 pub mod LawLemmas
+mod WorkedRows

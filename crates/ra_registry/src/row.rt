@@ -47,20 +47,24 @@ fn moment_of(row: &Row, at: u64) -> u64
 pub(crate) fn shorten(row: Row, at: u64) -> Row
     ensures { result ≡ changes.shorten at row }
 {
+    let RowState::Lost {
+        at: lost,
+        shortened,
+    } = row.state
+    else {
+        return row;
+    };
+    if shortened.is_some() {
+        return row;
+    }
     let moment = moment_of(&row, at);
-    match row.state {
-        RowState::Lost {
+    Row {
+        state: RowState::Lost {
             at: lost,
-            shortened: None,
-        } => Row {
-            state: RowState::Lost {
-                at: lost,
-                shortened: Some(moment),
-            },
-            changed: moment,
-            ..row
+            shortened: Some(moment),
         },
-        _ => row,
+        changed: moment,
+        ..row
     }
 }
 
@@ -102,10 +106,11 @@ fn close_any(row: Row, cause: Cause) -> Row
 pub(crate) fn close(row: Row, epoch: u64, cause: Cause) -> Row
     ensures { result ≡ changes.close epoch cause row }
 {
-    if row.epoch != epoch {
-        return row;
+    if row.epoch == epoch {
+        close_any(row, cause)
+    } else {
+        row
     }
-    close_any(row, cause)
 }
 
 /// The row, closed since its grace is over.

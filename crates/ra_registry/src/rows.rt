@@ -106,7 +106,7 @@ pub(crate) fn forget_closed(rows: &BTreeMap<Key, Row>, open_keys: &mut BTreeSet<
 }
 
 /// Shortens the rows of these entries' keys.
-fn shorten_rows(rows: &mut BTreeMap<Key, Row>, entries: &[Past], at: u64)
+pub(crate) fn shorten_rows(rows: &mut BTreeMap<Key, Row>, entries: &[Past], at: u64)
     ensures { ChangesRows rows.old rows.new entries.now (changes.shorten at) }
 {
     for entry in entries {
