@@ -1,5 +1,5 @@
 -- What holds of a request that no reason is against.
-use Rattle.std.proofs.Common.{◌≡◌, ◌≢◌, ℕ, Bool, true, false, not, ◌&&◌, List, [], ◌∷◌, Option, None, Some, option_map, unwrap_or, is_some, refl, sym, ap, ◌∙◌}
+use Rattle.std.proofs.Common.{◌≡◌, ◌≢◌, ℕ, Bool, true, false, not, ◌&&◌, [], ◌∷◌, Option, None, Some, option_map, unwrap_or, is_some, refl, sym, ap, ◌∙◌}
 use Rattle.std.specs.Option.{is_none}
 use Rattle.ra_base.specs.Outcome.{first_that}
 use Rattle.ra_base.specs.declared.handshake.Reason.{Reason}

@@ -1,9 +1,8 @@
 -- What a registry holds stays consistent with its history when an entry is made.
-use Rattle.std.proofs.Common.{◌≡◌, ℕ, ◌+◌, ◌-◌, ◌<◌, ◌≤◌, Bool, true, false, cond, ◌||◌, List, [], ◌∷◌, ◌++◌, length, drop, Option, None, Some, option_map, is_some, arith, length-append, refl, sym, ap, subst, ◌∙◌}
+use Rattle.std.proofs.Common.{◌≡◌, ℕ, ◌+◌, ◌-◌, ◌<◌, ◌≤◌, Bool, true, false, cond, ◌||◌, [], ◌∷◌, ◌++◌, length, drop, Option, None, Some, option_map, is_some, arith, length-append, refl, sym, ap, ◌∙◌}
 use Rattle.std.specs.BTreeMap.{BTreeMap, get}
 use Rattle.std.specs.BTreeSet.{BTreeSet, contains, btree_set_len}
 use Rattle.std.proofs.Math.Bool.{or-true}
-use Rattle.std.specs.List.{list_any}
 use Rattle.std.proofs.lemmas.List.{drop-append-le}
 use Rattle.std.proofs.lemmas.List.Folds.{list_any-append}
 use Rattle.ra_base.specs.Keys.{key_cmp}
@@ -13,15 +12,14 @@ use Rattle.ra_base.specs.declared.kind.Kind.{Kind}
 use Rattle.ra_base.specs.declared.key.Cause.{Cause}
 use Rattle.ra_base.specs.declared.key.Key.{Key}
 use Rattle.ra_base.specs.declared.key.Seat.{Seat}
-use Rattle.ra_registry.specs.declared.past.Did.{Did}
-use Rattle.ra_registry.specs.declared.past.Did.TheVariants.{Admitted, Refused, Lost, Closed, Expired, Missed}
+use Rattle.ra_registry.specs.declared.past.Did.TheVariants.{Refused, Lost, Closed, Missed}
 use Rattle.ra_registry.specs.declared.past.Past.{Past}
 use Rattle.ra_registry.specs.declared.row.Row.{Row}
 use Rattle.ra_registry.specs.RegistryStates.{RegistryState, with_entry}
 use Rattle.ra_registry.specs.RowChanges.{shorten, lose, close, admitted_at, is_open, is_unshortened}
 use Rattle.ra_registry.specs.Rows.{same_key, own_change, other_change, row_of}
-use Rattle.ra_registry.specs.Seats.{IsUnspent, admissions, endings}
-use Rattle.ra_registry.specs.Legal.{IsLegal, Fits}
+use Rattle.ra_registry.specs.Seats.{IsUnspent}
+use Rattle.ra_registry.specs.Legal.{Fits}
 use Rattle.ra_registry.specs.TableChanges.{has_key, SetsRow, ChangesRow, ChangesRows, SameRows, SetsKey, SameKeys}
 use Rattle.ra_registry.specs.Admission.{admission_refusal, admission_entry, seat_for, key_of, next_epoch}
 use Rattle.ra_registry.specs.Consistent.{IsConsistent}

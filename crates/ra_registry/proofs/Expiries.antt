@@ -5,7 +5,6 @@ use Rattle.std.specs.BTreeMap.{BTreeMap, get}
 use Rattle.std.specs.BTreeSet.{BTreeSet, contains, btree_set_len, IsOrdered}
 use Rattle.std.specs.List.{list_any, AllByRecursion, IsDistinct}
 use Rattle.std.specs.List.Sorted.{IsStrictlySortedBy}
-use Rattle.std.specs.declared.cmp.Ordering.{Ordering}
 use Rattle.std.specs.Ordering.{is_eq}
 use Rattle.std.proofs.Math.ListN.{get_or-map}
 use Rattle.std.proofs.lemmas.List.{length-map, get_or_default, drop-append-le, take_rest}
@@ -17,7 +16,6 @@ use Rattle.std.proofs.lemmas.Map.Keys.{IsDistinct-from_sorted, IsDistinct-head, 
 use Rattle.std.proofs.lemmas.Map.Made.{is_member-filter, All-is_member}
 use Rattle.ra_base.specs.Keys.{key_cmp}
 use Rattle.ra_base.specs.declared.key.Key.{Key}
-use Rattle.ra_registry.specs.declared.past.Did.TheVariants.{Expired}
 use Rattle.ra_registry.specs.declared.past.Past.{Past}
 use Rattle.ra_registry.specs.declared.row.Row.{Row}
 use Rattle.ra_registry.specs.RegistryStates.{RegistryState, with_entry, with_entries}
@@ -28,7 +26,7 @@ use Rattle.ra_registry.specs.Legal.{IsLegal, is_over, is_over_row}
 use Rattle.ra_registry.specs.Expiry.{expiry_of}
 use Rattle.ra_registry.specs.TableChanges.{has_key, ChangesRows}
 use Rattle.ra_registry.specs.Consistent.{IsConsistent}
-use Rattle.ra_registry.proofs.SameKeys.{same_key_is, same_keys_laws, same_key_other_way}
+use Rattle.ra_registry.proofs.SameKeys.{same_key_is, same_keys_laws}
 use Rattle.ra_registry.proofs.RowLemmas.{each_row, expire_twice, is_open-expire, is_unshortened-expire}
 use Rattle.ra_registry.proofs.TableLemmas.{both}
 use Rattle.ra_registry.proofs.HistoryRows.{row_of-push, change_is}

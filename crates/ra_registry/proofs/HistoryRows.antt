@@ -1,15 +1,14 @@
 -- The row of a session after one more entry.
-use Rattle.std.proofs.Common.{◌≡◌, ℕ, Bool, true, false, cond, List, [], ◌∷◌, ◌++◌, Option, None, option_map, refl}
+use Rattle.std.proofs.Common.{◌≡◌, ℕ, Bool, true, false, cond, [], ◌∷◌, Option, option_map, refl}
 use Rattle.std.proofs.lemmas.List.Sums.{fold-append}
 use Rattle.ra_base.specs.declared.handshake.Reason.{Reason}
 use Rattle.ra_base.specs.declared.kind.Kind.{Kind}
 use Rattle.ra_base.specs.declared.key.Key.{Key}
-use Rattle.ra_registry.specs.declared.past.Did.{Did}
 use Rattle.ra_registry.specs.declared.past.Did.TheVariants.{Refused}
 use Rattle.ra_registry.specs.declared.past.Past.{Past}
 use Rattle.ra_registry.specs.declared.row.Row.{Row}
 use Rattle.ra_registry.specs.RowChanges.{shorten}
-use Rattle.ra_registry.specs.RegistryStates.{RegistryState, with_entry, with_entries}
+use Rattle.ra_registry.specs.RegistryStates.{RegistryState, with_entry}
 use Rattle.ra_registry.specs.Rows.{same_key, own_change, other_change, change, start_row, row_of}
 
 -- with no entries, the row is that of the start

@@ -1,8 +1,7 @@
 -- The laws.
-use Rattle.std.proofs.Common.{◌≡◌, ◌⊎◌, inl, inr, ℕ, ◌+◌, ◌<◌, ◌≤◌, Bool, true, false, not, cond, ◌&&◌, ◌||◌, List, [], ◌∷◌, ◌++◌, length, take, Option, None, Some, option_map, unwrap_or, is_some, arith, refl, sym, ap, ◌∙◌}
+use Rattle.std.proofs.Common.{◌≡◌, ◌⊎◌, inl, inr, ℕ, ◌+◌, ◌≤◌, Bool, true, false, not, cond, ◌&&◌, ◌||◌, List, [], ◌∷◌, ◌++◌, length, take, Option, None, Some, option_map, is_some, arith, refl, ap, ◌∙◌}
 use Rattle.std.specs.Option.{is_none}
 use Rattle.std.proofs.Math.Bool.{or-true}
-use Rattle.std.specs.List.{count_by}
 use Rattle.ra_base.specs.Outcome.{first_that}
 use Rattle.ra_base.specs.declared.handshake.Reason.{Reason}
 use Rattle.ra_base.specs.declared.handshake.Reason.TheVariants.{UnknownKind, NeverSeen, SeenBefore, Duplicate}
@@ -18,8 +17,8 @@ use Rattle.ra_registry.specs.declared.row.Row.{Row}
 use Rattle.ra_registry.specs.RegistryStates.{RegistryState, with_entry, up_to}
 use Rattle.ra_registry.specs.RowChanges.{shorten, is_open}
 use Rattle.ra_registry.specs.Rows.{same_key, own_change, other_change, start_row, row_of}
-use Rattle.ra_registry.specs.Admission.{admission_refusal, admission_reasons, key_of, is_known, can_reconnect, is_live_row}
-use Rattle.ra_registry.specs.Seats.{IsUnspent, admissions, endings, given, spent, admits, ends, is_of}
+use Rattle.ra_registry.specs.Admission.{admission_refusal, key_of, is_known, can_reconnect}
+use Rattle.ra_registry.specs.Seats.{IsUnspent, admissions, endings, spent, ends, is_of}
 use Rattle.ra_registry.specs.Legal.{IsLegal}
 use Rattle.ra_registry.proofs.HistoryRows.{row_of-push, change_is}
 use Rattle.ra_registry.proofs.LegalHistories.{legal_front}
@@ -34,6 +33,21 @@ of_four a b c d w x y z ea eb ec ed = rw (ea, eb, ec, ed) refl
 some_is : (kind : Option Kind) → is_some kind ≡ true → is_none kind ≡ false
 some_is None h = cc
 some_is (Some kind) h = refl
+
+-- of two tables, the second one counts where no reason of the first applies
+pub first_of_both : (xs ys : List (Bool × Reason)) (reason : Reason) → first_that xs ≡ Some reason → first_that (xs ++ ys) ≡ Some reason
+first_of_both [] ys reason h = cc
+first_of_both (x ∷ xs) ys reason h =
+    let here : (b : Bool) → cond b (Some x.1) (first_that xs) ≡ Some reason → cond b (Some x.1) (first_that (xs ++ ys)) ≡ Some reason =
+    elim [ true ↦ λ e. e | false ↦ λ e. first_of_both xs ys reason e ] in
+    here x.0 h
+
+pub second_of_both : (xs ys : List (Bool × Reason)) → first_that xs ≡ None → first_that (xs ++ ys) ≡ first_that ys
+second_of_both [] ys h = refl
+second_of_both (x ∷ xs) ys h =
+    let here : (b : Bool) → cond b (Some x.1) (first_that xs) ≡ None → cond b (Some x.1) (first_that (xs ++ ys)) ≡ first_that ys =
+    elim [ true ↦ λ e. cc | false ↦ λ e. second_of_both xs ys e ] in
+    here x.0 h
 
 -- a session that has a row is known
 known : (rows : Key → Option Row) (token : List ℕ) (kind : Kind) → is_some (rows (record { kind = kind; token = token })) ≡ true → is_known rows token ≡ true

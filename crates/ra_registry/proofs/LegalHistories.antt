@@ -1,5 +1,5 @@
 -- Legal histories: one more entry, and what holds of all of them.
-use Rattle.std.proofs.Common.{◌≡◌, ℕ, zero, suc, ◌<◌, ◌+◌, ◌≤◌, List, [], ◌∷◌, ◌++◌, length, take, get_or, arith, length-append, refl, sym, ap, subst, below_more}
+use Rattle.std.proofs.Common.{◌≡◌, ℕ, zero, suc, ◌<◌, ◌+◌, ◌≤◌, List, [], ◌∷◌, ◌++◌, length, take, get_or, arith, length-append, refl, sym, subst, below_more}
 use Rattle.std.proofs.lemmas.List.{take-append-le, take_at, take_all, take-take, length-take, get_or_append_left, get_or_push, get_or-take}
 use Rattle.std.proofs.Math.Seq.{take-suc}
 use Rattle.ra_base.specs.declared.kind.Kind.TheVariants.{Management}

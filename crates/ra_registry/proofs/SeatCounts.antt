@@ -1,5 +1,5 @@
 -- The seats that are not spent, and how many entries of each kind a legal history has.
-use Rattle.std.proofs.Common.{◌≡◌, ℕ, zero, ◌<◌, ◌+◌, ◌≤◌, Bool, true, false, cond, ◌&&◌, ◌||◌, eqb, List, [], ◌∷◌, ◌++◌, length, arith, refl, sym, ap, ◌∙◌}
+use Rattle.std.proofs.Common.{◌≡◌, ℕ, ◌<◌, ◌+◌, ◌≤◌, Bool, true, false, cond, ◌&&◌, ◌||◌, eqb, List, [], ◌∷◌, ◌++◌, length, arith, refl, sym, ap, ◌∙◌}
 use borrow.Author.Tests.{eqb-true, eq-eqb}
 use Rattle.std.specs.List.{count_by, list_any}
 use Rattle.std.specs.Set.{remove_key}
@@ -13,7 +13,7 @@ use Rattle.ra_registry.specs.declared.past.Past.{Past}
 use Rattle.ra_registry.specs.RegistryStates.{RegistryState, with_entry}
 use Rattle.ra_registry.specs.Rows.{same_key}
 use Rattle.ra_registry.specs.Seats.{admissions, endings, given, spent, IsUnspent, admits, ends, is_of}
-use Rattle.ra_registry.specs.Legal.{IsLegal, Allows, Fits}
+use Rattle.ra_registry.specs.Legal.{IsLegal, Allows}
 use Rattle.ra_registry.proofs.SameKeys.{same_key_is, same_key_itself}
 use Rattle.ra_registry.proofs.LegalHistories.{each_legal, legal_push}
 

@@ -1,7 +1,7 @@
 -- The rows at the start, which are closed.
-use Rattle.std.proofs.Common.{◌≡◌, ℕ, ◌+◌, ◌≤◌, max, Bool, true, false, cond, List, [], ◌∷◌, ◌++◌, fold, length, get_or, Option, None, Some, arith, refl, sym, ap, ◌∙◌}
+use Rattle.std.proofs.Common.{◌≡◌, ℕ, max, true, false, cond, List, [], ◌∷◌, fold, Option, None, Some, arith, refl, sym, ap, ◌∙◌}
 use Rattle.std.specs.BTreeMap.{BTreeMap, get}
-use Rattle.std.specs.BTreeSet.{BTreeSet, contains, btree_set_len, IsEmpty}
+use Rattle.std.specs.BTreeSet.{BTreeSet, IsEmpty}
 use Rattle.ra_base.specs.Keys.{key_cmp}
 use Rattle.ra_base.specs.declared.key.Key.{Key}
 use Rattle.ra_keep.specs.declared.record.Record.{Record}

@@ -1,5 +1,5 @@
 -- Which histories a registry can have.
-use Rattle.std.specs.Prelude.{◌≡◌, ℕ, ◌<◌, Bool, true, false, not, length, slice_index_or, Option, Some, None, IsTrue}
+use Rattle.std.specs.Prelude.{◌≡◌, ℕ, ◌<◌, Bool, true, false, not, length, slice_index_or, Option, Some, None}
 use Rattle.ra_base.specs.declared.handshake.Request.{Request}
 use Rattle.ra_base.specs.declared.key.Key.{Key}
 use Rattle.ra_registry.specs.declared.past.Did.{Did}

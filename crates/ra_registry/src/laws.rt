@@ -1,6 +1,8 @@
 //! What holds of every legal history, and what a request means for others. Each function has an empty body: its clauses are what is
 //! proved.
-ghost use Rattle.std.specs.Prelude.{◌≡◌, ◌⊎◌, ℕ, ◌+◌, ◌<◌, ◌≤◌, true, false, Some, None, List, ◌∷◌, ◌++◌, [], length, take, option_map, is_some, if◌then◌else◌};
+ghost use Rattle.std.specs.Prelude.{◌≡◌, ◌⊎◌, ℕ, ◌+◌, ◌<◌, ◌≤◌, Bool, true, false, Some, None, List, ◌∷◌, ◌++◌, [], length, take, option_map, is_some, if◌then◌else◌};
+ghost use Rattle.ra_base.specs.Outcome.{first_that};
+ghost use Rattle.ra_base.specs.declared.handshake.Reason.{Reason};
 ghost use Rattle.ra_base.specs.declared.handshake.Reason.TheVariants.{SeenBefore, Duplicate};
 ghost use Rattle.ra_base.specs.declared.handshake.Request.{Request};
 ghost use Rattle.ra_base.specs.declared.key.Key.{Key};
@@ -10,9 +12,17 @@ ghost use Rattle.ra_registry.specs.declared.row.Row.{Row};
 ghost use Rattle.ra_registry.specs.RegistryStates.{RegistryState, with_entry};
 ghost use Rattle.ra_registry.specs.RowChanges.{shorten, is_open};
 ghost use Rattle.ra_registry.specs.Rows.{same_key, epoch_of, start_row, row_of};
-ghost use Rattle.ra_registry.specs.Admission.{admission_refusal, key_of, can_reconnect};
+ghost use Rattle.ra_registry.specs.Admission.{admission_reasons, admission_refusal, key_of, can_reconnect};
 ghost use Rattle.ra_registry.specs.Seats.{IsUnspent, admissions, endings, given, spent, admissions_of, ends, is_of};
 ghost use Rattle.ra_registry.specs.Legal.{IsLegal};
+
+/// The first reason of one table: the reasons of the handshake, and then those of the registry.
+pub fn verdict()
+    ensures earlier { (reasons : List (Bool × Reason)) (registry : RegistryState) (ask : Request) (at : ℕ) (reason : Reason)
+        → first_that reasons ≡ Some reason → first_that (reasons ++ admission_reasons registry ask at) ≡ Some reason }
+    ensures later { (reasons : List (Bool × Reason)) (registry : RegistryState) (ask : Request) (at : ℕ)
+        → first_that reasons ≡ None → first_that (reasons ++ admission_reasons registry ask at) ≡ admission_refusal registry ask at }
+{}
 
 /// A reconnection whose kind is known, and whose session can be reconnected once all lost rows are shortened, has no reason against it.
 pub fn reconnection()

@@ -22,7 +22,7 @@ pub enum RowState {
 /// What is known of a session.
 #[derive(Clone, Copy, Debug, PartialEq, Eq)]
 pub struct Row {
-    /// The number of its latest link, from 1.
+    /// The number of its latest link.
     pub epoch: u64,
     pub state: RowState,
     /// The moment of its last admission, shortening or loss, in milliseconds. A call with an earlier moment counts as made at it.

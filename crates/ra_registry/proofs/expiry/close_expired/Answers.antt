@@ -1,6 +1,6 @@
-use Rattle.std.proofs.Common.{◌≡◌, ℕ, ◌+◌, ◌<◌, ◌≤◌, Bool, true, false, not, cond, ◌&&◌, ◌||◌, take, length, get_or, arith, sym, ap, ◌∙◌, refl}
+use Rattle.std.proofs.Common.{◌≡◌, ◌+◌, true, false, not, cond, ◌&&◌, ◌||◌, take, get_or, arith, sym, ap, ◌∙◌, refl}
 use Rattle.std.proofs.Math.Bool.{and-true}
-use Rattle.std.specs.BTreeSet.{contains, btree_set_len}
+use Rattle.std.specs.BTreeSet.{contains}
 use Rattle.std.proofs.lemmas.List.{get_or_default}
 use Rattle.std.proofs.lemmas.List.Folds.{list_any_more}
 use Rattle.ra_base.specs.Keys.{key_cmp}

@@ -1,4 +1,4 @@
-use Rattle.std.proofs.Common.{◌≡◌, Some, option_map, rules, sym, ap, ◌∙◌}
+use Rattle.std.proofs.Common.{Some, option_map, rules, sym, ap, ◌∙◌}
 use Rattle.ra_registry.specs.RowChanges.{lose}
 use Rattle.ra_registry.proofs.TableLemmas.{set_is_change, none_is_change}
 use Rattle.ra_registry.proofs.rows.lose_row.Goals as goal

@@ -1,9 +1,9 @@
-use Rattle.std.proofs.Common.{◌≡◌, ℕ, max, Bool, true, false, cond, Option, Some, refl, sym, ap, ◌∙◌}
+use Rattle.std.proofs.Common.{◌≡◌, max, Bool, true, false, cond, Option, Some, refl, ap, ◌∙◌}
 use Rattle.std.specs.BTreeMap.{get}
 use Rattle.ra_base.specs.Keys.{key_cmp}
 use Rattle.ra_base.specs.declared.key.Key.{Key}
 use Rattle.ra_registry.specs.declared.row.Row.{Row}
-use Rattle.ra_registry.specs.Rows.{same_key, epoch_of, stopped, with_record}
+use Rattle.ra_registry.specs.Rows.{same_key, epoch_of, stopped}
 use Rattle.ra_registry.proofs.SameKeys.{same_key_is}
 use Rattle.ra_registry.proofs.start.add_record.Goals as goal
 

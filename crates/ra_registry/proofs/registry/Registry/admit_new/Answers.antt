@@ -1,14 +1,13 @@
-use Rattle.std.proofs.Common.{◌≡◌, ◌+◌, ◌≤◌, Bool, true, false, cond, None, Some, length, drop, arith, refl, sym, ap, subst, ◌∙◌}
+use Rattle.std.proofs.Common.{◌≡◌, true, false, cond, None, Some, arith, refl, sym, ap, subst, ◌∙◌}
 use Rattle.std.specs.BTreeMap.{get}
-use Rattle.std.specs.BTreeSet.{contains, btree_set_len}
+use Rattle.std.specs.BTreeSet.{contains}
 use Rattle.ra_base.specs.Keys.{key_cmp}
 use Rattle.ra_base.specs.declared.key.Key.{Key}
 use Rattle.ra_registry.specs.declared.row.Row.{Row}
 use Rattle.ra_registry.specs.RegistryStates.{RegistryState}
-use Rattle.ra_registry.specs.RowChanges.{is_open, shorten, admitted_at}
-use Rattle.ra_registry.specs.Rows.{row_of}
-use Rattle.ra_registry.specs.TableChanges.{SetsRow, ChangesRows, SetsKey}
-use Rattle.ra_registry.specs.Admission.{admission_refusal, admission_entry, key_of}
+use Rattle.ra_registry.specs.RowChanges.{is_open, admitted_at}
+use Rattle.ra_registry.specs.TableChanges.{SetsRow, SetsKey}
+use Rattle.ra_registry.specs.Admission.{admission_refusal, key_of}
 use Rattle.ra_registry.proofs.SameKeys.{same_key_itself}
 use Rattle.ra_registry.proofs.TableLemmas.{row_undone, key_undone}
 use Rattle.ra_registry.proofs.Accepted.{accepted_new, new_entry, new_seat}

@@ -1,4 +1,4 @@
-use Rattle.std.proofs.Common.{◌≡◌, arith, sym, subst}
+use Rattle.std.proofs.Common.{arith, sym, subst}
 use Rattle.ra_registry.specs.RegistryStates.{RegistryState}
 use Rattle.ra_registry.specs.Seats.{IsUnspent}
 use Rattle.ra_registry.proofs.Entered.{seat_left, closed_consistent}

@@ -1,12 +1,7 @@
-use Rattle.std.proofs.Common.{◌≡◌, ℕ, ◌-◌, ◌<◌, true, false, List, length, take, drop, get_or, map, arith, length-append, refl, sym, ap, subst, ◌∙◌}
-use Rattle.std.specs.BTreeSet.{contains}
+use Rattle.std.proofs.Common.{◌≡◌, ◌-◌, length, take, drop, map, arith, length-append, refl, ap, ◌∙◌}
 use Rattle.std.proofs.lemmas.List.{length-map}
-use Rattle.ra_base.specs.Keys.{key_cmp}
 use Rattle.ra_registry.specs.declared.past.Past.{Past}
 use Rattle.ra_registry.specs.RegistryStates.{RegistryState}
-use Rattle.ra_registry.specs.RowChanges.{expire}
-use Rattle.ra_registry.specs.Rows.{same_key}
-use Rattle.ra_registry.specs.TableChanges.{has_key, ChangesRows}
 use Rattle.ra_registry.specs.Expiry.{expiry_of}
 use Rattle.ra_registry.proofs.Expiries.{over_keys, over_sorted, each_over, over_there, over_apart, expired_consistent, entries_behind}
 use Rattle.ra_registry.proofs.registry.Registry.expire.Goals as goal

@@ -1,4 +1,4 @@
-use Rattle.std.proofs.Common.{◌≡◌, refl}
+use Rattle.std.proofs.Common.{refl}
 use Rattle.ra_registry.specs.Rows.{start_row}
 use Rattle.ra_registry.proofs.StartRows.{start_consistent}
 use Rattle.ra_registry.proofs.registry.Registry.new.Goals as goal

@@ -1,13 +1,13 @@
-use Rattle.std.proofs.Common.{◌≡◌, ℕ, ◌+◌, ◌≤◌, Bool, true, false, None, Some, is_some, length, arith, refl, sym, ap, subst, ◌∙◌}
+use Rattle.std.proofs.Common.{◌≡◌, ℕ, None, Some, arith, sym, ap, subst, ◌∙◌}
 use Rattle.std.specs.BTreeMap.{get}
 use Rattle.ra_base.specs.Keys.{key_cmp}
 use Rattle.ra_base.specs.declared.key.Key.{Key}
 use Rattle.ra_registry.specs.declared.row.Row.{Row}
 use Rattle.ra_registry.specs.RegistryStates.{RegistryState}
-use Rattle.ra_registry.specs.RowChanges.{is_open, shorten, admitted_at}
-use Rattle.ra_registry.specs.Rows.{row_of, epoch_of}
-use Rattle.ra_registry.specs.TableChanges.{SetsRow, ChangesRows}
-use Rattle.ra_registry.specs.Admission.{admission_refusal, admission_entry, key_of, next_epoch}
+use Rattle.ra_registry.specs.RowChanges.{admitted_at}
+use Rattle.ra_registry.specs.Rows.{row_of}
+use Rattle.ra_registry.specs.TableChanges.{SetsRow}
+use Rattle.ra_registry.specs.Admission.{admission_refusal, key_of, next_epoch}
 use Rattle.ra_registry.proofs.Accepted.{accepted_again, again_open, later_entry}
 use Rattle.ra_registry.proofs.Epochs.{next_is, open_epoch}
 use Rattle.ra_registry.proofs.Entered.{admitted_consistent, later_rows, stays_open, still_there}
