@@ -1,5 +1,5 @@
 -- The rows at the start, which are closed.
-use Rattle.std.proofs.Common.{◌≡◌, ℕ, max, true, false, cond, List, [], ◌∷◌, fold, Option, None, Some, arith, refl, sym, ap, ◌∙◌}
+use Rattle.std.proofs.Common.{◌≡◌, ℕ, zero, suc, ◌<◌, ◌≤◌, max, Bool, true, false, cond, List, [], ◌∷◌, fold, length, get_or, Option, None, Some, arith, refl, sym, ap, ◌∙◌}
 use Rattle.std.specs.BTreeMap.{BTreeMap, get}
 use Rattle.std.specs.BTreeSet.{BTreeSet, IsEmpty}
 use Rattle.ra_base.specs.Keys.{key_cmp}
@@ -24,6 +24,36 @@ closed_fold key (kept ∷ records) row closed =
 pub start_closed : (records : List Record) (key : Key) → is_open (start_row records key) ≡ false
 unfolding start_row
 start_closed records key = closed_fold key records None refl
+
+-- a row at the start keeps at least its epoch
+stopped_stays : (key : Key) (records : List Record) (e : ℕ) → (f : ℕ) × (fold (with_record key) (Some (stopped e)) records ≡ Some (stopped f)) × (e ≤ f)
+stopped_stays key [] e = (e, refl, omega arith)
+stopped_stays key (kept ∷ records) e =
+    let here : (b : Bool) → (f : ℕ) × (fold (with_record key) (cond b (Some (stopped (max kept.epoch e))) (Some (stopped e))) records ≡ Some (stopped f)) × (e ≤ f) =
+    elim [
+      | true ↦ let r = stopped_stays key records (max kept.epoch e) in (r.0, r.1, omega (arith, r.2))
+      | false ↦ stopped_stays key records e
+    ] in
+    here (same_key kept.key key)
+
+each_fold : (key : Key) (records : List Record) (row : Option Row) (i : ℕ) (d : Record) → i < length records
+    → same_key (get_or records i d).key key ≡ true
+    → (f : ℕ) × (fold (with_record key) row records ≡ Some (stopped f)) × ((get_or records i d).epoch ≤ f)
+each_fold key [] row i d small same = absurd (omega arith)
+each_fold key (kept ∷ records) row zero d small same =
+    let first : with_record key row kept ≡ Some (stopped (max kept.epoch (epoch_of row))) =
+    ap (λ b. cond b (Some (stopped (max kept.epoch (epoch_of row)))) row) same in
+    let r = stopped_stays key records (max kept.epoch (epoch_of row)) in
+    (r.0, ap (λ x. fold (with_record key) x records) first ∙ r.1, omega (arith, r.2))
+each_fold key (kept ∷ records) row (suc i) d small same =
+    let less : i < length records = omega arith in
+    each_fold key records (with_record key row kept) i d less same
+
+-- each key of the records has a row at the start, with no smaller epoch
+pub each_record : (records : List Record) (key : Key) (i : ℕ) (d : Record) → i < length records → same_key (get_or records i d).key key ≡ true
+    → (f : ℕ) × (start_row records key ≡ Some (stopped f)) × ((get_or records i d).epoch ≤ f)
+unfolding start_row
+each_record records key i d small same = each_fold key records None i d small same
 
 closed_shortened : (row : Row) → is_open (Some row) ≡ false → is_unshortened (Some row) ≡ false
 closed_shortened = each_row (λ row. is_open (Some row) ≡ false → is_unshortened (Some row) ≡ false) (λ e c h. refl) (λ e c l h. cc) (λ e c l s h. refl) (λ e c k h. refl)

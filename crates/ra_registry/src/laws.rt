@@ -1,17 +1,18 @@
 //! What holds of every legal history, and what a request means for others. Each function has an empty body: its clauses are what is
 //! proved.
-ghost use Rattle.std.specs.Prelude.{◌≡◌, ◌⊎◌, ℕ, ◌+◌, ◌<◌, ◌≤◌, Bool, true, false, Some, None, List, ◌∷◌, ◌++◌, [], length, take, option_map, is_some, if◌then◌else◌};
+ghost use Rattle.std.specs.Prelude.{◌≡◌, ◌⊎◌, ℕ, ◌+◌, ◌<◌, ◌≤◌, Bool, true, false, Some, None, List, ◌∷◌, ◌++◌, [], length, take, slice_index_or, option_map, is_some, if◌then◌else◌};
 ghost use Rattle.ra_base.specs.Outcome.{first_that};
 ghost use Rattle.ra_base.specs.declared.handshake.Reason.{Reason};
 ghost use Rattle.ra_base.specs.declared.handshake.Reason.TheVariants.{SeenBefore, Duplicate};
 ghost use Rattle.ra_base.specs.declared.handshake.Request.{Request};
 ghost use Rattle.ra_base.specs.declared.key.Key.{Key};
 ghost use Rattle.ra_base.specs.declared.key.Seat.{Seat};
+ghost use Rattle.ra_keep.specs.declared.record.Record.{Record};
 ghost use Rattle.ra_registry.specs.declared.past.Past.{Past};
 ghost use Rattle.ra_registry.specs.declared.row.Row.{Row};
 ghost use Rattle.ra_registry.specs.RegistryStates.{RegistryState, with_entry};
 ghost use Rattle.ra_registry.specs.RowChanges.{shorten, is_open};
-ghost use Rattle.ra_registry.specs.Rows.{same_key, epoch_of, start_row, row_of};
+ghost use Rattle.ra_registry.specs.Rows.{same_key, epoch_of, stopped, start_row, row_of};
 ghost use Rattle.ra_registry.specs.Admission.{admission_reasons, admission_refusal, key_of, can_reconnect};
 ghost use Rattle.ra_registry.specs.Seats.{IsUnspent, admissions, endings, given, spent, admissions_of, ends, is_of};
 ghost use Rattle.ra_registry.specs.Legal.{IsLegal};
@@ -61,8 +62,11 @@ pub fn epochs()
         → epoch_of (row_of registry key) ≡ epoch_of (start_row registry.start key) + admissions_of key registry.history }
 {}
 
-/// A session of the start records stays closed. A reconnection of it is refused as seen before, and a new request as a duplicate.
+/// Each session of the start records has a row that is closed with `Stopped`, with no smaller epoch, and stays closed. A reconnection of it is refused as seen before, and a new request as a duplicate.
 pub fn started()
+    ensures row { (records : List Record) (key : Key) (i : ℕ) (d : Record) → i < length records
+        → same_key (slice_index_or records i d).key key ≡ true
+        → (epoch : ℕ) × (start_row records key ≡ Some (stopped epoch)) × ((slice_index_or records i d).epoch ≤ epoch) }
     ensures closed { (registry : RegistryState) (key : Key) → IsLegal registry → is_some (start_row registry.start key) ≡ true
         → (is_some (row_of registry key) ≡ true) × (is_open (row_of registry key) ≡ false) }
     ensures refused { (registry : RegistryState) (ask : Request) (at : ℕ) → IsLegal registry → is_some ask.kind ≡ true

@@ -95,7 +95,8 @@ impl Registry {
         self.rows.get(key).copied()
     }
 
-    /// The link of this seat was lost. A row that is up with the seat's epoch is lost. It takes no memory.
+    /// The link of this seat, which was given and is not spent, was lost. A row that is up with the seat's epoch is lost. It takes no
+    /// memory.
     pub fn lost(&mut self, seat: Seat, now: Moment)
         requires { IsUnspent seat self.old.history }
         ensures { self.new ≡ with_entry self.old (record { at = now; key = seat.key; did = dids.Lost seat.epoch }) }
@@ -108,7 +109,8 @@ impl Registry {
         self.seats -= 1;
     }
 
-    /// The session of this seat has ended. A row with the seat's epoch that is not closed yet is closed. It takes no memory.
+    /// The session of this seat, which was given and is not spent, has ended. A row with the seat's epoch that is not closed yet is
+    /// closed. It takes no memory.
     pub fn close(&mut self, seat: Seat, cause: Cause, now: Moment)
         requires { IsUnspent seat self.old.history }
         ensures { self.new ≡ with_entry self.old (record { at = now; key = seat.key; did = dids.Closed seat.epoch cause }) }
