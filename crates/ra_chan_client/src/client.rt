@@ -1,0 +1,64 @@
+//! The channel client: what it holds, and its copy.
+ghost use Rattle.std.specs.Prelude.{◌≡◌, IfOk};
+ghost use Rattle.ra_ipc.specs.ChannelClients.{new_client};
+
+use crate::waiting;
+use ra_ipc::Packet;
+use ra_values::NoMemory;
+use std::alloc::Global;
+use std::collections::{BTreeMap, BTreeSet};
+use std::marker::Model;
+
+/// The client end of a session's channels. A contract sees its next id, whether the server is ready, the requests that wait for
+/// that, the unsettled calls and the living listeners.
+#[derive(Drop)]
+pub struct ChannelClient {
+    pub(crate) next: u32,
+    pub(crate) ready: bool,
+    pub(crate) waiting: BTreeMap<u32, Packet>,
+    pub(crate) calls: BTreeSet<u32>,
+    pub(crate) listeners: BTreeSet<u32>,
+}
+
+impl Model for ChannelClient {
+    ghost use Rattle.ra_ipc.specs.ChannelClients.{Client};
+    ghost use Rattle.ra_chan_client.specs.Held.{IsHeld, messages};
+    ghost use Rattle.ra_values.specs.TreeCode.{coded_tree};
+    ghost use Rattle.std.specs.Coded.{codes};
+
+    ghost Value = { Client };
+
+    ghost coded = { Prim.hlevel (codes, coded_tree) };
+
+    ghost view = { λ c. record { next = c.next; ready = c.ready; waiting = messages c.waiting.entries; calls = c.calls.keys; listeners = c.listeners.keys } };
+
+    ghost invariant = { λ c. IsHeld c.next c.waiting.entries c.calls.keys c.listeners.keys };
+}
+
+impl ChannelClient {
+    /// A client that made no request, of a server that is not ready.
+    pub fn new(alloc: Global) -> ChannelClient
+        ensures { result ≡ new_client }
+    {
+        ChannelClient {
+            next: 0,
+            ready: false,
+            waiting: BTreeMap::new(alloc),
+            calls: BTreeSet::new(alloc),
+            listeners: BTreeSet::new(alloc),
+        }
+    }
+
+    /// An equal client.
+    pub fn copy(&self, alloc: Global) -> Result<ChannelClient, NoMemory>
+        ensures { IfOk result (λ c. c ≡ self.now) }
+    {
+        Ok(ChannelClient {
+            next: self.next,
+            ready: self.ready,
+            waiting: waiting::copied(alloc, &self.waiting)?,
+            calls: self.calls.clone()?,
+            listeners: self.listeners.clone()?,
+        })
+    }
+}

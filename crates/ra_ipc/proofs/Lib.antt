@@ -1,0 +1,9 @@
+pub mod HeadFits
+pub mod Readings
+pub mod Spelled
+pub mod Counts
+pub mod Kept
+pub mod Outcomes
+pub mod Listeners
+pub mod Replies
+pub mod ChannelRows

@@ -1,0 +1,12 @@
+pub mod Messages
+pub mod Packets
+pub mod Laws
+pub mod ReadMessage
+pub mod View
+pub mod Heads
+pub mod FaultTexts
+pub mod ChannelServers
+pub mod ChannelClients
+pub mod ChannelPairs
+pub mod ChannelPackets
+pub mod ChannelLaws

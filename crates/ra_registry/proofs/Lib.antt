@@ -1,0 +1,13 @@
+pub mod SameKeys
+pub mod RowLemmas
+pub mod TableLemmas
+pub mod HistoryRows
+pub mod LegalHistories
+pub mod SeatCounts
+pub mod Epochs
+pub mod Entered
+pub mod StartRows
+pub mod Accepted
+pub mod Expiries
+pub mod LawLemmas
+mod WorkedRows

@@ -1,0 +1,11 @@
+pub mod Grace
+pub mod RowChanges
+pub mod RegistryStates
+pub mod Rows
+pub mod Admission
+pub mod Seats
+pub mod Legal
+pub mod Expiry
+pub mod KeptRecords
+pub mod TableChanges
+pub mod Consistent

@@ -1,0 +1,10 @@
+pub mod Limits
+pub mod Numbers
+pub mod Items
+pub mod Utf8
+pub mod Again
+pub mod Takes
+pub mod Once
+pub mod Levels
+pub mod Places
+pub mod Spelled

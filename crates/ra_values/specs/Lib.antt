@@ -1,0 +1,10 @@
+pub mod Tree
+pub mod Number
+pub mod Spelling
+pub mod ValueBytes
+pub mod Laws
+pub mod View
+pub mod Reading
+pub mod ReadValue
+pub mod TreeCode
+pub mod FaultTexts
