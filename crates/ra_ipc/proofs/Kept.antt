@@ -169,14 +169,14 @@ new_id p j m ms e o k t = omega (arith, k.once j, k.active j, none_found (holds 
 same_id : (j : ℕ) → (j == j) ≡ true
 same_id j = eq-eqb j j refl
 
-promised_counts : (s : Server) (j : ℕ) (ch name : List ℕ) (arg : Tree) (now : ℕ) (test : Active → Bool) (b : Bool) → test (handed_call j) ≡ b → test (waiting_call j ch name arg false (now + channel_wait)) ≡ b
+pub promised_counts : (s : Server) (j : ℕ) (ch name : List ℕ) (arg : Tree) (now : ℕ) (test : Active → Bool) (b : Bool) → test (handed_call j) ≡ b → test (waiting_call j ch name arg false (now + channel_wait)) ≡ b
     → number_of test (promised s j ch name arg now).active ≡ number_of test s.active + one b
 promised_counts s j ch name arg now test b x y = elim (cases_Bool (is_registered ch s)) [
   | inl t ↦ rw t (omega (arith, number-push test s.active (handed_call j), ap one x))
   | inr f ↦ rw f (omega (arith, number-push test s.active (waiting_call j ch name arg false (now + channel_wait)), ap one y))
 ]
 
-listened_counts : (s : Server) (j : ℕ) (ch event : List ℕ) (now : ℕ) (test : Active → Bool) (b : Bool) → test (listener j ch event) ≡ b → test (waiting_listen j ch event (now + channel_wait)) ≡ b
+pub listened_counts : (s : Server) (j : ℕ) (ch event : List ℕ) (now : ℕ) (test : Active → Bool) (b : Bool) → test (listener j ch event) ≡ b → test (waiting_listen j ch event (now + channel_wait)) ≡ b
     → number_of test (listened s j ch event now).active ≡ number_of test s.active + one b
 listened_counts s j ch event now test b x y = elim (cases_Bool (is_registered ch s)) [
   | inl t ↦ rw t (omega (arith, number-push test s.active (listener j ch event), ap one x))

@@ -6,4 +6,5 @@ pub mod Kept
 pub mod Outcomes
 pub mod Listeners
 pub mod Replies
+pub mod ServerOnce
 pub mod ChannelRows

@@ -7,6 +7,7 @@ pub mod Heads
 pub mod FaultTexts
 pub mod ChannelServers
 pub mod ChannelClients
+pub mod ServerRuns
 pub mod ChannelPairs
 pub mod ChannelPackets
 pub mod ChannelLaws

@@ -1,5 +1,6 @@
 //! The law of the format of packets, apart from its reader and its writer, and the law over both ends of a session's channels.
 ghost use Rattle.ra_ipc.specs.ChannelLaws.{AnsweredAsTold, SettlesOnce, SettlesByItsOwn, AnsweredOnce, NeverClashes, FiresInOrder, FiredWhileListening};
+ghost use Rattle.ra_ipc.specs.ServerRuns.{AnsweredOncePerPromise};
 ghost use Rattle.ra_ipc.specs.Laws.{EachIsSpelled, OthersAreNotSpelled, NoneBeginsAnother, SpelledIsRead};
 
 /// Each message that fits has exactly one spelling, any other has none, no spelling begins another, and a spelling is read as
@@ -21,4 +22,10 @@ pub fn channels()
     ensures fires { FiresInOrder }
     ensures fired { FiredWhileListening }
     ensures apart { NeverClashes }
+{}
+
+/// What a channel server answers, whatever its peer sends: each call at most once before it hears another one of the same id, and no
+/// call that it did not hear.
+pub fn server_alone()
+    ensures { AnsweredOncePerPromise }
 {}
