@@ -7,4 +7,5 @@ pub mod Outcomes
 pub mod Listeners
 pub mod Replies
 pub mod ServerOnce
+pub mod Heard
 pub mod ChannelRows

@@ -11,3 +11,4 @@ pub mod ServerRuns
 pub mod ChannelPairs
 pub mod ChannelPackets
 pub mod ChannelLaws
+pub mod Deliveries

@@ -1,6 +1,7 @@
 //! The law of the format of packets, apart from its reader and its writer, and the law over both ends of a session's channels.
 ghost use Rattle.ra_ipc.specs.ChannelLaws.{AnsweredAsTold, SettlesOnce, SettlesByItsOwn, AnsweredOnce, NeverClashes, FiresInOrder, FiredWhileListening};
 ghost use Rattle.ra_ipc.specs.ServerRuns.{AnsweredOncePerPromise};
+ghost use Rattle.ra_ipc.specs.Deliveries.{EachClientHears, ServerHears};
 ghost use Rattle.ra_ipc.specs.Laws.{EachIsSpelled, OthersAreNotSpelled, NoneBeginsAnother, SpelledIsRead};
 
 /// Each message that fits has exactly one spelling, any other has none, no spelling begins another, and a spelling is read as
@@ -28,4 +29,10 @@ pub fn channels()
 /// call that it did not hear.
 pub fn server_alone()
     ensures { AnsweredOncePerPromise }
+{}
+
+/// What a delivery does to an end of a pair is what its packet does to that end.
+pub fn deliveries()
+    ensures server { ServerHears }
+    ensures client { EachClientHears }
 {}
