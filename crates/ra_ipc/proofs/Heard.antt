@@ -1,12 +1,12 @@
 -- A delivery in a pair, by the packet that is heard.
-use Rattle.std.proofs.Common.{◌≡◌, ℕ, List, [], ◌++◌, true, false, refl, sym, inl, inr}
+use Rattle.std.proofs.Common.{◌≡◌, ℕ, List, [], ◌++◌, refl, sym, inl, inr}
 use Rattle.std.proofs.lemmas.Bool.{cases_Bool}
 use Rattle.std.proofs.lemmas.List.{append-nil}
 use Rattle.ra_ipc.specs.Messages.{Message, promise, promise_cancel, event_listen, event_dispose, initialize, response, event_fire}
 use Rattle.ra_ipc.specs.ChannelServers.{is_active}
 use Rattle.ra_ipc.specs.ChannelClients.{is_in}
-use Rattle.ra_ipc.specs.ChannelPackets.{active_id, after_packet, notice_of}
-use Rattle.ra_ipc.specs.ChannelPairs.{Pair, server_takes, client_takes}
+use Rattle.ra_ipc.specs.ChannelPackets.{active_id}
+use Rattle.ra_ipc.specs.ChannelPairs.{Pair, server_takes}
 use Rattle.ra_ipc.specs.ServerRuns.{server_after}
 use Rattle.ra_ipc.specs.Deliveries.{ClientHears}
 

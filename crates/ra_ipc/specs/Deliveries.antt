@@ -1,7 +1,7 @@
 -- What a delivery does in a pair is what the packet does to the end that hears it.
-use Rattle.std.specs.Prelude.{◌≡◌, ℕ, List, [], ◌∷◌, ◌++◌, Option, Some, None}
+use Rattle.std.specs.Prelude.{◌≡◌, ℕ, List, [], ◌∷◌, ◌++◌, Option, Some}
 use Rattle.ra_values.specs.Tree.{Tree}
-use Rattle.ra_ipc.specs.Messages.{Reply, Message}
+use Rattle.ra_ipc.specs.Messages.{Message}
 use Rattle.ra_ipc.specs.ChannelPackets.{active_id, after_packet, Notice, ready, settled, fired, notice_of}
 use Rattle.ra_ipc.specs.ChannelPairs.{Pair, Outcome, answered, server_takes, client_takes}
 use Rattle.ra_ipc.specs.ServerRuns.{server_after}
