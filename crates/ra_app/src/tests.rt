@@ -14,7 +14,7 @@ fn called(alloc: Global, name: &str, arg: &Value, cancelled: bool) -> Result<Don
     Tools.call(alloc, &channel, &name, arg, cancelled)
 }
 
-/// What a value is: T, I or O with its text or its number, U, or another.
+/// Whether the value is this text.
 fn is_text(value: &Value, wanted: &str) -> bool {
     matches!(value, Value::Text { text } if text.as_str() == wanted)
 }
@@ -35,7 +35,7 @@ fn says(done: &Done, wanted: &str) -> bool {
     matches!(&done.fire, Some(shout) if shout.event.as_str() == "said" && is_text(&shout.body, wanted))
 }
 
-/// The answer to a call with the text `hi`, as the test wants it.
+/// The text `hi` as a value.
 fn hi(alloc: Global) -> Result<Value, NoMemory> {
     let text = Text::of(alloc, "hi")?;
     Ok(Value::Text { text })
