@@ -1,7 +1,7 @@
 //! The reader: bytes come in any pieces, and frames go out.
 //!
 //! It copies each body once, keeps the bytes of a frame that is not whole yet, and reserves nothing for what a header only states.
-ghost use Rattle.std.specs.Prelude.{◌≡◌, ◌≤◌, ◌++◌, ℕ, List, [], length, drop, Ok, Err, Some, None, false, OnOk, OnErr, IfOk, IfErr, MatchOption, IfSome};
+ghost use Rattle.std.specs.Prelude.{◌≡◌, ◌≤◌, ◌++◌, ℕ, List, [], length, drop, take, Ok, Err, Some, None, false, OnOk, OnErr, IfOk, IfErr, MatchOption, IfSome};
 ghost use Rattle.ra_model.specs.Frames.{Begins, HoldsNoFrame};
 ghost use Rattle.ra_model.specs.FirstFrame.{first_frame, is_too_long};
 ghost use Rattle.ra_frame.specs.Fronts.{IsPartial, IsTooLong};
@@ -156,6 +156,14 @@ impl FrameReader {
         ensures { self.new ≡ drop len self.old }
     {
         self.start += len;
+    }
+
+    /// Keeps the first `len` unread bytes alone, and so takes back what was fed behind them. It takes no memory.
+    pub fn truncate(&mut self, len: usize)
+        requires { len ≤ length self.old }
+        ensures { self.new ≡ take len self.old }
+    {
+        self.buffer.truncate(self.start + len);
     }
 
     /// Whether `next` has a frame or a `TooLong` to give.

@@ -117,3 +117,15 @@ fn the_rest_is_copied_and_discarded(rt: HostRuntime) -> Result<(), Fail> {
     assert_eq!(rt; copied.unread(), b"rest".as_slice());
     Ok(())
 }
+
+#[test]
+fn a_piece_is_taken_back(rt: HostRuntime) -> Result<(), Fail> {
+    let mut reader = reader_of(rt.alloc(), &HI)?;
+    reader.skip(13);
+    reader.feed(b"rest")?;
+    if reader.unread().len() >= 2 {
+        reader.truncate(2);
+    }
+    assert_eq!(rt; reader.unread(), b"hi".as_slice());
+    Ok(())
+}

@@ -11,7 +11,7 @@ ghost use Rattle.ra_model.specs.Refusals.{take_fault};
 ghost use Rattle.ra_model.specs.Taking.{take_frame, delivery, delivery_of};
 ghost use Rattle.ra_model.specs.HeardPlaces.{applied};
 ghost use Rattle.ra_model.specs.Timing.{asked_lately};
-ghost use Rattle.ra_proto.specs.Passed.{passed};
+ghost use Rattle.ra_proto.specs.Passed.{passed, received};
 ghost use Rattle.ra_proto.specs.Refused.{RefusedBy};
 
 use crate::endpoint::{Endpoint, later};
@@ -22,7 +22,7 @@ use ra_model::{EndFault, Frame, Phase, Timing, Up};
 use ra_timer::alarms::{asked_lately, heard_where, watched};
 
 /// The next message.
-fn is_next(id: u64, received: u64) -> bool
+pub(crate) fn is_next(id: u64, received: u64) -> bool
     ensures { result ≡ (id == suc received) }
 {
     id > received && id - received == 1
@@ -47,6 +47,17 @@ impl Endpoint {
         self.timing.latest = later(now, self.timing.latest);
     }
 
+    /// The next message counts as handed up, and the ack of its frame counts.
+    pub(crate) fn receive(&mut self, id: u64, ack: u64, now: Moment)
+        requires { id ≡ suc self.old.received }
+        ensures received { self.new ≡ received id ack now self.old }
+        ensures consistent { IsConsistent self.old }
+    {
+        self.pass(ack, now);
+        self.received = id;
+        self.timing = heard_where(self.phase.is_up(), self.timing.latest, self.timing);
+    }
+
     /// The next message.
     fn apply_message(&mut self, frame: Frame, now: Moment) -> Up
         requires kind { frame_kind frame.kind ≡ Regular }
@@ -56,9 +67,7 @@ impl Endpoint {
         ensures unread { self.new.unread ≡ self.old.unread }
         ensures epoch { self.new.epoch ≡ self.old.epoch }
     {
-        self.pass(frame.ack, now);
-        self.received = frame.id;
-        self.timing = heard_where(self.phase.is_up(), self.timing.latest, self.timing);
+        self.receive(frame.id, frame.ack, now);
         Up::Message {
             id: frame.id,
             body: frame.body,

@@ -1,9 +1,10 @@
 //! Links that begin, bring bytes and are lost, and the end of a session.
-ghost use Rattle.std.specs.Prelude.{◌≡◌, ◌&&◌, ◌==◌, ◌++◌, true, false, OnOk, OnErr, IfOk};
-ghost use Rattle.ra_model.specs.EndpointStates.{StandsFor};
+ghost use Rattle.std.specs.Prelude.{◌≡◌, ◌≤◌, ◌&&◌, ◌==◌, ◌++◌, true, false, ℕ, List, length, take, OnOk, OnErr, IfOk};
+ghost use Rattle.ra_model.specs.EndpointStates.{EndpointState, StandsFor};
 ghost use Rattle.ra_model.specs.Endpoints.{Endpoint as AbstractEndpoint, is_linked, is_joining};
 ghost use Rattle.ra_model.specs.Refusals.{if_ended, begin_fault, finish_fault, feed_fault};
 ghost use Rattle.ra_model.specs.Calls.{begin, finish, feed, lose, leave};
+ghost use Rattle.ra_proto.specs.FeedMarks.{mark_of, IsTimed};
 ghost use Rattle.ra_proto.specs.Refused.{RefusedBy};
 
 use crate::endpoint::{Endpoint, later};
@@ -11,8 +12,16 @@ use crate::unwritten::Unwritten;
 use crate::writing::{append_if, append_rejoin, append_replay, waits};
 use ra_base::Moment;
 use ra_frame::FrameReader;
-use ra_model::{EndFault, Phase};
+use ra_model::{EndFault, Phase, Timing};
 use ra_timer::alarms::{alarms_cleared, fed, link_begun, link_up, watched};
+
+/// What `undo_feed` goes back to.
+#[derive(Clone, Copy, Debug, PartialEq, Eq)]
+pub struct FeedMark {
+    /// How many bytes are unread.
+    pub unread: usize,
+    pub timing: Timing,
+}
 
 impl Endpoint {
     /// A link begins, with the bytes that were read of it. The first is up at once, and all that is owed is written on it.
@@ -118,6 +127,29 @@ impl Endpoint {
         self.unread.feed(piece)?;
         self.timing = fed(piece, later(now, self.timing.latest), self.timing);
         Ok(())
+    }
+
+    /// What `undo_feed` needs of the present state.
+    pub fn feed_mark(&self) -> FeedMark
+        ensures mark { result ≡ mark_of self.now }
+        ensures timed { IsTimed result.timing }
+    {
+        FeedMark {
+            unread: self.unread.unread().len(),
+            timing: self.timing,
+        }
+    }
+
+    /// Takes back what was fed since the mark. It takes no memory, and needs that nothing was taken, and no link begun or lost, since.
+    pub fn undo_feed(&mut self, mark: FeedMark)
+        requires unread { mark.unread ≤ length self.old.unread }
+        requires timed { IsTimed mark.timing }
+        ensures state { self.new ≡ record self.old { unread = take mark.unread self.old.unread; timing = mark.timing } }
+        ensures back { (before : EndpointState) (piece : List ℕ) → mark ≡ mark_of before
+            → self.old ≡ record before { unread = before.unread ++ piece; timing = self.old.timing } → self.new ≡ before }
+    {
+        self.unread.truncate(mark.unread);
+        self.timing = mark.timing;
     }
 
     /// A link is lost. True where it was the present one.

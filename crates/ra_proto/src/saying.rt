@@ -14,7 +14,7 @@ use ra_model::{EndFault, Entry};
 use ra_timer::alarms::watched;
 
 /// The most bytes of a body.
-const BODY_LIMIT: usize = 268_435_456;
+pub(crate) const BODY_LIMIT: usize = 268_435_456;
 
 /// A say that was refused.
 #[derive(Debug, Drop)]

@@ -47,5 +47,7 @@ fn front(rt: HostRuntime) -> Result<(), Fail> {
     assert_eq!(rt; first.len() + second.len(), 1);
     let (first, second) = copy.slices_from(1);
     assert_eq!(rt; first.len() + second.len(), 0);
+    queue.truncate(0);
+    assert!(rt; queue.is_empty());
     Ok(())
 }

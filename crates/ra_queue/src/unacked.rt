@@ -1,5 +1,5 @@
 //! The queue of what is not acknowledged.
-ghost use Rattle.std.specs.Prelude.{◌≡◌, ◌+◌, ◌-◌, ◌<◌, ◌≤◌, ◌∷◌, ◌++◌, ◌↔◌, [], length, drop, map, IfOk, OnOk, OnErr, IsTrue};
+ghost use Rattle.std.specs.Prelude.{◌≡◌, ◌+◌, ◌-◌, ◌<◌, ◌≤◌, ◌∷◌, ◌++◌, ◌↔◌, [], length, take, drop, map, IfOk, OnOk, OnErr, IsTrue};
 ghost use Rattle.std.specs.Slice.{IsItemAt};
 ghost use Rattle.ra_model.specs.Endpoints.{first_written};
 ghost use Rattle.ra_model.specs.EndpointStates.{behind, entry_written};
@@ -89,6 +89,14 @@ impl Unacked {
         ensures spare { self.new.spare + 1 ≡ self.old.spare }
     {
         self.entries.push_back(entry).unwrap();
+    }
+
+    /// Keeps the first `len` messages alone. It takes no memory.
+    pub fn truncate(&mut self, len: usize)
+        ensures entries { self.new.entries ≡ take len self.old.entries }
+        ensures spare { self.old.spare ≤ self.new.spare }
+    {
+        self.entries.truncate(len);
     }
 
     /// Removes the messages at the front whose ids are at most `upto`, and answers how many these are.
