@@ -1,3 +1,4 @@
 pub mod Held
+pub mod TakingBack
 pub mod View
 pub mod FaultTexts

@@ -1,8 +1,10 @@
 //! The channel client: what it holds, and its copy.
-ghost use Rattle.std.specs.Prelude.{◌≡◌, IfOk};
-ghost use Rattle.ra_ipc.specs.ChannelClients.{new_client};
+ghost use Rattle.std.specs.Prelude.{◌≡◌, ◌≤◌, ◌<◌, ◌^◌, IfOk, IfSome, IfNone};
+ghost use Rattle.ra_ipc.specs.ChannelClients.{new_client, is_in};
+ghost use Rattle.ra_ipc.specs.View.{id_of};
 
-use crate::waiting;
+use crate::requests::IDS;
+use crate::{ids, waiting};
 use ra_ipc::Packet;
 use ra_values::NoMemory;
 use std::alloc::Global;
@@ -60,5 +62,38 @@ impl ChannelClient {
             calls: self.calls.clone()?,
             listeners: self.listeners.clone()?,
         })
+    }
+
+    /// Whether the server is ready, and so requests go out at once.
+    pub fn is_ready(&self) -> bool
+        ensures { result ≡ self.now.ready }
+    {
+        self.ready
+    }
+
+    /// Whether a call with this id is unsettled.
+    pub fn has_call(&self, id: i32) -> bool
+        ensures { result ≡ is_in (id_of id) self.now.calls }
+    {
+        ids::has(&self.calls, id.cast_unsigned())
+    }
+
+    /// Whether a listener with this id lives.
+    pub fn has_listener(&self, id: i32) -> bool
+        ensures { result ≡ is_in (id_of id) self.now.listeners }
+    {
+        ids::has(&self.listeners, id.cast_unsigned())
+    }
+
+    /// The id that the next request gets. None where id 2,147,483,647 was given.
+    pub fn next_id(&self) -> Option<i32>
+        ensures id { IfSome result (λ id. id_of id ≡ self.now.next) }
+        ensures left { IfSome result (λ id. self.now.next < 2 ^ 31) }
+        ensures spent { IfNone result (2 ^ 31 ≤ self.now.next) }
+    {
+        if self.next >= IDS {
+            return None;
+        }
+        Some(self.next.cast_signed())
     }
 }

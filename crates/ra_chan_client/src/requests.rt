@@ -1,11 +1,13 @@
 //! What a client asks for: calls and listens, and the end of either.
-ghost use Rattle.std.specs.Prelude.{◌≡◌, ◌≢◌, ◌≤◌, ◌<◌, ◌^◌, ◌+◌, ◌++◌, ◌∷◌, [], true, false, option_map, Some, None, if◌then◌else◌, IfOk, IfErr, OnOk, OnErr};
+ghost use Rattle.std.specs.Prelude.{◌≡◌, ◌≢◌, ◌≤◌, ◌<◌, ◌^◌, ◌+◌, ◌++◌, ◌∷◌, [], true, false, ℕ, List, option_map, Some, None, if◌then◌else◌, IfOk, IfErr, OnOk, OnErr};
 ghost use Rattle.std.specs.Map.{keys_of};
+ghost use Rattle.ra_values.specs.Tree.{Tree};
 ghost use Rattle.ra_values.specs.View.{tree};
 ghost use Rattle.ra_ipc.specs.Messages.{promise, promise_cancel, event_listen, event_dispose};
 ghost use Rattle.ra_ipc.specs.View.{message, id_of};
-ghost use Rattle.ra_ipc.specs.ChannelClients.{is_in, after_call, after_listen, after_cancel, after_dispose};
+ghost use Rattle.ra_ipc.specs.ChannelClients.{Client, is_in, after_call, after_listen, after_cancel, after_dispose};
 ghost use Rattle.ra_chan_client.specs.Held.{AreIds};
+ghost use Rattle.ra_chan_client.specs.TakingBack.{taken_back, IsFresh};
 ghost use Rattle.ra_chan_client.specs.View.{RequestFits, if_ready};
 
 use crate::client::ChannelClient;
@@ -16,7 +18,7 @@ use ra_values::{NoMemory, Text, Value};
 use std::collections::{BTreeMap, BTreeSet};
 
 /// The id after the last one: 2^31.
-const IDS: u32 = 0x8000_0000;
+pub(crate) const IDS: u32 = 0x8000_0000;
 
 /// A request that was made.
 #[derive(Debug, Drop)]
@@ -69,6 +71,7 @@ impl ChannelClient {
         ensures issued { IfOk result (λ i. (id_of i.id ≡ self.old.next) × (option_map message i.packet ≡ if_ready self.old.ready (promise self.old.next channel name (tree arg)))) }
         ensures after { OnOk result (self.new ≡ after_call self.old (promise self.old.next channel name (tree arg))) }
         ensures left { OnOk result (self.old.next < 2 ^ 31) }
+        ensures fresh { OnOk result (IsFresh self.old) }
         ensures refused { IfErr result (λ e. e ≢ ClientFault.NoMemory → (e ≡ ClientFault.IdsSpent) × (2 ^ 31 ≤ self.old.next)) }
         ensures same { OnErr result (self.new ≡ self.old) }
     {
@@ -97,6 +100,7 @@ impl ChannelClient {
         ensures issued { IfOk result (λ i. (id_of i.id ≡ self.old.next) × (option_map message i.packet ≡ if_ready self.old.ready (event_listen self.old.next channel event (tree arg)))) }
         ensures after { OnOk result (self.new ≡ after_listen self.old (event_listen self.old.next channel event (tree arg))) }
         ensures left { OnOk result (self.old.next < 2 ^ 31) }
+        ensures fresh { OnOk result (IsFresh self.old) }
         ensures refused { IfErr result (λ e. e ≢ ClientFault.NoMemory → (e ≡ ClientFault.IdsSpent) × (2 ^ 31 ≤ self.old.next)) }
         ensures same { OnErr result (self.new ≡ self.old) }
     {
@@ -154,5 +158,22 @@ impl ChannelClient {
         }
         waiting::forget(&mut self.waiting, id.cast_unsigned());
         Ok(packet_if(self.ready, Packet::EventDispose { id }))
+    }
+
+    /// Takes back the request that was made last, a call or a listen: right behind it, the client is as it was before it, and its
+    /// id is given again. It takes no memory.
+    pub fn take_back(&mut self)
+        requires { 0 < self.old.next }
+        ensures state { self.new ≡ taken_back self.old }
+        ensures call { (c : Client) (channel name : List ℕ) (arg : Tree) → IsFresh c
+            → self.old ≡ after_call c (promise c.next channel name arg) → self.new ≡ c }
+        ensures listen { (c : Client) (channel event : List ℕ) (arg : Tree) → IsFresh c
+            → self.old ≡ after_listen c (event_listen c.next channel event arg) → self.new ≡ c }
+    {
+        let id = self.next - 1;
+        ids::take(&mut self.calls, id);
+        ids::take(&mut self.listeners, id);
+        waiting::forget(&mut self.waiting, id);
+        self.next = id;
     }
 }

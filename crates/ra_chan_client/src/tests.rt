@@ -32,6 +32,24 @@ fn dispose(client: &mut ChannelClient, id: i32) -> Result<bool, ClientFault> {
     Ok(matches!(&packet, Some(Packet::EventDispose { .. })))
 }
 
+/// Calls `echo` of the channel `tools`, and takes that back.
+fn call_in_vain(alloc: Global, client: &mut ChannelClient) -> Result<(), ClientFault> {
+    let channel = Text::of(alloc, "tools")?;
+    let name = Text::of(alloc, "echo")?;
+    client.call(channel, name, Value::Undefined)?;
+    client.take_back();
+    Ok(())
+}
+
+/// Listens to `said` of the channel `tools`, and takes that back.
+fn listen_in_vain(alloc: Global, client: &mut ChannelClient) -> Result<(), ClientFault> {
+    let channel = Text::of(alloc, "tools")?;
+    let event = Text::of(alloc, "said")?;
+    client.listen(channel, event, Value::Undefined)?;
+    client.take_back();
+    Ok(())
+}
+
 /// What was heard: R with the number of requests, S and F with the id, I.
 fn seen(heard: &Heard) -> (u8, i32) {
     match heard {
@@ -118,5 +136,23 @@ fn a_listener_that_ended_hears_nothing(rt: HostRuntime) -> Result<(), Fail> {
     listen(rt.alloc(), &mut client)?;
     assert!(rt; dispose(&mut client, 0)?);
     assert_eq!(rt; fire(rt.alloc(), &mut client, 0)?, (b'I', 0));
+    Ok(())
+}
+
+/// A request of either kind that is taken back leaves the others, and its id is given again.
+#[test]
+fn requests_are_taken_back(rt: HostRuntime) -> Result<(), Fail> {
+    let mut client = ChannelClient::new(rt.alloc());
+    assert_eq!(rt; client.next_id(), Some(0));
+    call_in_vain(rt.alloc(), &mut client)?;
+    assert!(rt; !client.has_call(0) && !client.is_ready());
+    assert_eq!(rt; echo(rt.alloc(), &mut client)?, (0, false));
+    listen_in_vain(rt.alloc(), &mut client)?;
+    assert!(rt; client.has_call(0) && !client.has_listener(1));
+    assert_eq!(rt; listen(rt.alloc(), &mut client)?, (1, false));
+    assert!(rt; !client.has_call(1) && client.has_listener(1));
+    assert_eq!(rt; client.next_id(), Some(2));
+    assert_eq!(rt; initialize(rt.alloc(), &mut client)?, (b'R', 1));
+    assert!(rt; client.is_ready());
     Ok(())
 }

@@ -1,9 +1,10 @@
-use Rattle.std.proofs.Common.{◌≡◌, arith}
+use Rattle.std.proofs.Common.{◌≡◌, refl, arith}
 use Rattle.std.proofs.lemmas.Bool.{cond_both}
 use Rattle.ra_values.specs.View.{tree}
 use Rattle.ra_chan_client.specs.Held.{AreRequests}
 use Rattle.ra_chan_client.proofs.Ascents.{ids_more}
 use Rattle.ra_chan_client.proofs.Kept.{promise_fits, requests_push, id_back}
+use Rattle.ra_chan_client.proofs.TakenBack.{fresh_is}
 use Rattle.ra_chan_client.proofs.client.ChannelClient.call.Goals as goal
 
 pub invariant_of-self-2 : goal.invariant_of-self-2
@@ -18,3 +19,6 @@ invariant_of-self-2 c =
           (λ _. requests_push c.self.inside.waiting.entries c.self.inside.next _ c.self.invariant.requests same
           (rw same (promise_fits c.self.inside.next c.args.channel c.args.name (tree c.args.arg) (omega (arith, c.if-id-ge-IDS.false)) c.requires))));
     }
+
+pub returns-clause-fresh : goal.returns-clause-fresh
+returns-clause-fresh c = rw (← c.self.view_is) (fresh_is _ c.self.inside.waiting.entries refl c.self.invariant)
