@@ -1,11 +1,10 @@
 -- The requests that wait.
-use Rattle.std.proofs.Common.{◌≡◌, ℕ, ℤ, w32, to_z, of_z, ◌+◌, ◌≤◌, ◌<◌, ◌^◌, List, [], ◌∷◌, ◌++◌, map, Bool, true, false, not, refl, ap, ◌∙◌, arith, inl, inr}
+use Rattle.std.proofs.Common.{◌≡◌, ℕ, ℤ, w32, to_z, of_z, ◌<◌, ◌^◌, List, [], ◌∷◌, ◌++◌, map, Bool, not, refl, ap, ◌∙◌, arith, inl, inr}
 use Rattle.std.proofs.lemmas.Bool.{cases_Bool, cond_both}
 use Rattle.std.specs.Prelude.{◌==◌}
 use Rattle.std.specs.List.{AllByRecursion, filter}
 use Rattle.std.specs.Map.{values_of}
-use Rattle.ra_values.specs.Tree.{Tree, text}
-use Rattle.ra_values.specs.Spelling.{Fits, levels}
+use Rattle.ra_values.specs.Tree.{Tree}
 use Rattle.ra_ipc.specs.Messages.{Message, promise, promise_cancel, event_listen, event_dispose, initialize, response, event_fire, opens}
 use Rattle.ra_ipc.specs.Packets.{MessageFits}
 use Rattle.ra_ipc.specs.ChannelClients.{Client}

@@ -1,5 +1,5 @@
 -- A request that was made last, and is taken back.
-use Rattle.std.proofs.Common.{◌≡◌, ℕ, ◌+◌, ◌-◌, ◌<◌, List, [], ◌∷◌, ◌++◌, Bool, cond, true, false, not, ◌||◌, eqb, refl, sym, ap, subst, ◌∙◌, arith, inl, inr}
+use Rattle.std.proofs.Common.{◌≡◌, ℕ, ◌+◌, ◌-◌, ◌<◌, List, [], ◌∷◌, ◌++◌, Bool, cond, true, false, not, refl, sym, ap, ◌∙◌, arith, inl, inr}
 use Rattle.std.proofs.lemmas.Bool.{cases_Bool, eq-eqb, ne_eqb, eqb-false}
 use Rattle.std.specs.Prelude.{◌==◌}
 use Rattle.std.specs.List.{AllByRecursion, filter}
@@ -8,7 +8,7 @@ use Rattle.ra_values.specs.Tree.{Tree}
 use Rattle.ra_ipc.specs.Messages.{Message, promise, event_listen, opens}
 use Rattle.ra_ipc.specs.ChannelClients.{Client, is_in, without, still_unsent, after_call, after_listen}
 use Rattle.ra_ipc.specs.declared.packet.Packet.{Packet}
-use Rattle.ra_chan_client.specs.Held.{AreIds, AreRequests, IsHeld, messages}
+use Rattle.ra_chan_client.specs.Held.{AreIds, IsHeld, messages}
 use Rattle.ra_chan_client.specs.TakingBack.{taken_back, IsFresh}
 use Rattle.ra_chan_client.proofs.Ascents.{ids_filter, keys_without}
 use Rattle.ra_chan_client.proofs.Kept.{messages_without, same_parts}

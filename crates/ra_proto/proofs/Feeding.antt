@@ -1,5 +1,5 @@
 -- A piece that is taken back leaves nothing.
-use Rattle.std.proofs.Common.{◌≡◌, ℕ, ◌≤◌, List, ◌++◌, length, take, ap, sym, ◌∙◌, arith, length-append}
+use Rattle.std.proofs.Common.{◌≡◌, ℕ, ◌≤◌, List, ◌++◌, length, take, ap, ◌∙◌, arith, length-append}
 use Rattle.std.proofs.Math.Seq.{take-append_seam}
 use Rattle.ra_model.specs.EndpointStates.{EndpointState}
 use Rattle.ra_proto.specs.declared.links.FeedMark.{FeedMark}

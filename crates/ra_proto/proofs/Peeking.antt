@@ -1,7 +1,7 @@
 -- What is seen to come is what is handed up, and stays so as long as what comes next does.
 use Rattle.std.specs.Prelude.{option_map}
 use Rattle.std.proofs.Common.{◌≡◌, ◌≤◌, ℕ, suc, Bool, true, false, cond, ◌&&◌, eqb, Option, Some, None, List, [], length, drop, refl, ap, sym, ◌∙◌, subst}
-use Rattle.std.proofs.lemmas.Bool.{cond-true, cond-false, and_parts, eqb-true}
+use Rattle.std.proofs.lemmas.Bool.{cond-false, and_parts, eqb-true}
 use Rattle.ra_model.specs.declared.frame.Frame.{Frame}
 use Rattle.ra_model.specs.declared.session.Phase.{Phase}
 use Rattle.ra_model.specs.declared.session.Up.{Up as Delivery}

@@ -1,9 +1,8 @@
 -- Messages that are said at once are said one after the other.
-use Rattle.std.proofs.Common.{◌≡◌, ℕ, zero, suc, ◌+◌, ◌<◌, ◌≤◌, max, Bool, true, false, cond, ◌&&◌, ltb, Option, Some, None, List, [], ◌∷◌, ◌++◌, length, refl, ap, sym, ◌∙◌, subst, arith, append_assoc, append-nil, length-append}
+use Rattle.std.proofs.Common.{◌≡◌, ℕ, zero, suc, ◌+◌, ◌<◌, ◌≤◌, max, Bool, true, false, cond, ◌&&◌, ltb, Option, Some, None, List, [], ◌∷◌, ◌++◌, length, refl, ap, sym, ◌∙◌, subst, arith, append_assoc, append-nil}
 use Rattle.std.specs.Prelude.{All}
 use Rattle.std.proofs.lemmas.Bool.{ltb-false, lt-ltb}
 use Rattle.std.proofs.lemmas.List.Elements.{All-append}
-use Rattle.ra_model.specs.declared.frame.Frame.{Frame}
 use Rattle.ra_model.specs.declared.fault.EndFault.{EndFault}
 use Rattle.ra_model.specs.declared.fault.EndFault.TheVariants.{TooLarge}
 use Rattle.ra_model.specs.declared.session.Entry.{Entry}
@@ -12,7 +11,7 @@ use Rattle.ra_model.specs.Frames.{body_limit, joined, last_id, frame_bytes}
 use Rattle.ra_model.specs.Timing.{or_else, watched}
 use Rattle.ra_model.specs.Endpoints.{Endpoint, is_up, is_ended, entry_frame, first_written}
 use Rattle.ra_model.specs.Calls.{say, when}
-use Rattle.ra_model.specs.Refusals.{or_fault, if_large}
+use Rattle.ra_model.specs.Refusals.{or_fault}
 use Rattle.ra_model.specs.EndpointStates.{EndpointState, IsConsistent, StandsFor}
 use Rattle.ra_model.specs.GoesOn.{GoesOn}
 use Rattle.ra_model.proofs.Consistent.{said_consistent}

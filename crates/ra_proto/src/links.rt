@@ -20,6 +20,7 @@ use ra_timer::alarms::{alarms_cleared, fed, link_begun, link_up, watched};
 pub struct FeedMark {
     /// How many bytes are unread.
     pub unread: usize,
+    /// The alarms, and the moments that are remembered.
     pub timing: Timing,
 }
 

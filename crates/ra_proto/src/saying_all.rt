@@ -34,13 +34,7 @@ fn check_sizes(bodies: &[Message]) -> Result<(), EndFault>
 }
 
 /// Puts messages behind the others, with the ids behind `last`. There must be room for them.
-fn push_all(
-    queue: &mut Unacked,
-    last: u64,
-    ack: u64,
-    written: Option<u64>,
-    bodies: Vec<Message>,
-)
+fn push_all(queue: &mut Unacked, last: u64, ack: u64, written: Option<u64>, bodies: Vec<Message>)
     requires room { length bodies.items ≤ queue.old.spare }
     requires ids { last + length bodies.items ≤ last_id }
     ensures { queue.new.entries ≡ queue.old.entries ++ said_entries last ack written bodies.items }
@@ -76,7 +70,7 @@ fn append_rest_when(
 }
 
 /// Puts messages into the queue, and writes them where the link is up; or changes nothing.
-fn enqueue_all(
+pub(crate) fn enqueue_all(
     queue: &mut Unacked,
     unwritten: &mut Unwritten,
     is_up: bool,
@@ -122,7 +116,7 @@ impl Endpoint {
     }
 
     /// Whether these messages may be said.
-    fn check_say_all(&self, bodies: &[Message]) -> Result<(), EndFault>
+    pub(crate) fn check_say_all(&self, bodies: &[Message]) -> Result<(), EndFault>
         ensures refused { RefusedBy result (say_all_fault self.now.phase self.now.sent bodies.now) }
         ensures going { OnOk result (is_ended self.now.phase ≡ false) }
         ensures sizes { OnOk result (first_large bodies.now ≡ None) }

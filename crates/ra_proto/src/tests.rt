@@ -191,3 +191,75 @@ fn reconnects(rt: HostRuntime) -> Result<(), Fail> {
     assert!(rt; times_out(&mut copy, 20_010)?);
     Ok(())
 }
+
+/// A piece comes and is taken back.
+fn feeds_in_vain(endpoint: &mut Endpoint, piece: &[u8]) -> Result<(), Fail> {
+    let mark = endpoint.feed_mark();
+    endpoint.feed(1, piece, at(9)?)?;
+    endpoint.undo_feed(mark);
+    Ok(())
+}
+
+/// The next message is seen and then taken: its id.
+fn sees_and_takes(endpoint: &mut Endpoint) -> Result<Option<u64>, Fail> {
+    let Coming::Message { message } = endpoint.peek()? else {
+        return Ok(None);
+    };
+    endpoint.take_message(message.id, message.ack, message.len, at(0)?);
+    Ok(Some(message.id))
+}
+
+/// The next message is seen, and taken with an answer that has its body.
+fn answers(alloc: Global, endpoint: &mut Endpoint) -> Result<bool, Fail> {
+    let Coming::Message { message } = endpoint.peek()? else {
+        return Ok(false);
+    };
+    let NextMessage { id, body, ack, len } = message;
+    let bodies = Vec::from_array(alloc, [body])?;
+    endpoint.take_and_say(id, ack, len, bodies, at(0)?)?;
+    Ok(true)
+}
+
+/// Two messages of one byte are said.
+fn says_two(alloc: Global, endpoint: &mut Endpoint) -> Result<(), Fail> {
+    let mut bodies = Vec::new(alloc);
+    bodies.push(Message::copy(alloc, b"a")?)?;
+    bodies.push(Message::copy(alloc, b"b")?)?;
+    Ok(endpoint.say_all(bodies, at(0)?)?)
+}
+
+/// A piece that is taken back does not come before the next one.
+#[test]
+fn takes_a_piece_back(rt: HostRuntime) -> Result<(), Fail> {
+    let mut endpoint = up(rt.alloc())?;
+    endpoint.feed(1, &letter(1, 0, 0x61)[..5], at(0)?)?;
+    feeds_in_vain(&mut endpoint, b"lost")?;
+    endpoint.feed(1, &letter(1, 0, 0x61)[5..], at(0)?)?;
+    assert_eq!(rt; sees_and_takes(&mut endpoint)?, Some(1));
+    assert_eq!(rt; endpoint.peek()?, Coming::Nothing);
+    Ok(())
+}
+
+/// A message is seen, the next is answered, and an Ack is no message.
+#[test]
+fn sees_what_comes(rt: HostRuntime) -> Result<(), Fail> {
+    let mut endpoint = up(rt.alloc())?;
+    endpoint.feed(1, &letter(1, 0, 0x61), at(0)?)?;
+    endpoint.feed(1, &letter(2, 0, 0x62), at(0)?)?;
+    endpoint.feed(1, &bare(3, 0), at(0)?)?;
+    assert_eq!(rt; sees_and_takes(&mut endpoint)?, Some(1));
+    assert!(rt; answers(rt.alloc(), &mut endpoint)?);
+    assert_eq!(rt; endpoint.peek()?, Coming::Other);
+    assert!(rt; writes(&mut endpoint, &letter(1, 2, 0x62), &[]));
+    Ok(())
+}
+
+/// Messages that are said at once get ids in their order.
+#[test]
+fn says_all(rt: HostRuntime) -> Result<(), Fail> {
+    let mut endpoint = up(rt.alloc())?;
+    says_two(rt.alloc(), &mut endpoint)?;
+    assert_eq!(rt; waiting(&endpoint), (2, 0));
+    assert!(rt; writes(&mut endpoint, &letter(1, 0, 0x61), &letter(2, 0, 0x62)));
+    Ok(())
+}

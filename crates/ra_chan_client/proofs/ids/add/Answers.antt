@@ -1,4 +1,4 @@
-use Rattle.std.proofs.Common.{◌≡◌, ◌∙◌}
+use Rattle.std.proofs.Common.{◌∙◌}
 use Rattle.ra_chan_client.proofs.Ascents.{ids_push, key_push}
 use Rattle.ra_chan_client.proofs.ids.add.Goals as goal
 

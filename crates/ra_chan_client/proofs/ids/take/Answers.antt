@@ -1,4 +1,4 @@
-use Rattle.std.proofs.Common.{◌≡◌, ◌∙◌, not}
+use Rattle.std.proofs.Common.{◌∙◌, not}
 use Rattle.std.specs.Prelude.{◌==◌}
 use Rattle.ra_chan_client.proofs.Ascents.{ids_filter, key_goes}
 use Rattle.ra_chan_client.proofs.ids.take.Goals as goal

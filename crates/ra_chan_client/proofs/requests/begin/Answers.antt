@@ -1,4 +1,4 @@
-use Rattle.std.proofs.Common.{◌≡◌, ◌+◌, ap, ◌∙◌}
+use Rattle.std.proofs.Common.{◌+◌, ap, ◌∙◌}
 use Rattle.ra_ipc.specs.ChannelClients.{without}
 use Rattle.ra_chan_client.proofs.Ascents.{last_goes}
 use Rattle.ra_chan_client.proofs.requests.begin.Goals as goal

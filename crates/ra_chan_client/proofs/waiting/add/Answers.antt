@@ -1,4 +1,4 @@
-use Rattle.std.proofs.Common.{◌≡◌, ◌∙◌}
+use Rattle.std.proofs.Common.{◌∙◌}
 use Rattle.std.specs.Map.{keys_of}
 use Rattle.ra_chan_client.proofs.Ascents.{ids_push, entry_push, keys_push}
 use Rattle.ra_chan_client.proofs.waiting.add.Goals as goal

@@ -1,4 +1,4 @@
-use Rattle.std.proofs.Common.{◌≡◌, ◌++◌, sym, ap, ◌∙◌}
+use Rattle.std.proofs.Common.{◌++◌, sym, ap, ◌∙◌}
 use Rattle.ra_chan_client.proofs.Ascents.{ids_before}
 use Rattle.ra_chan_client.proofs.waiting.copied.Goals as goal
 

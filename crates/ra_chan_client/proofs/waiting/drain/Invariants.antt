@@ -1,4 +1,4 @@
-use Rattle.std.proofs.Common.{◌≡◌, ◌≤◌, ◌+◌, ◌++◌, length, vec_len, vec_capacity}
+use Rattle.std.proofs.Common.{◌≡◌, ◌≤◌, ◌+◌, ◌++◌, vec_len, vec_capacity}
 use Rattle.std.specs.Map.{values_of}
 use Rattle.std.specs.BTreeMap.{btree_map_len}
 use Rattle.ra_chan_client.proofs.waiting.drain.Given as goal

@@ -1,4 +1,4 @@
-use Rattle.std.proofs.Common.{◌≡◌, ◌∙◌, not}
+use Rattle.std.proofs.Common.{◌∙◌, not}
 use Rattle.std.specs.Prelude.{◌==◌}
 use Rattle.std.specs.Map.{keys_of}
 use Rattle.ra_chan_client.proofs.Ascents.{ids_filter, entry_goes, keys_without}

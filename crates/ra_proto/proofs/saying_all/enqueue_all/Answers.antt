@@ -1,4 +1,3 @@
-use Rattle.std.proofs.Common.{◌≡◌, length, ap, ◌∙◌}
 use Rattle.ra_proto.proofs.SayingAll.{queue_fits}
 use Rattle.ra_proto.proofs.saying_all.enqueue_all.Goals as goal
 

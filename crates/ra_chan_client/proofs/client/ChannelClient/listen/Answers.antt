@@ -1,4 +1,4 @@
-use Rattle.std.proofs.Common.{◌≡◌, refl, arith}
+use Rattle.std.proofs.Common.{refl, arith}
 use Rattle.std.proofs.lemmas.Bool.{cond_both}
 use Rattle.ra_values.specs.View.{tree}
 use Rattle.ra_chan_client.specs.Held.{AreRequests}

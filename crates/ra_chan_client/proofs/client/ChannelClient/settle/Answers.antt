@@ -2,7 +2,6 @@ use Rattle.std.proofs.Common.{◌≡◌, ℕ, true, w32, of_z, refl, sym, ap, �
 use Rattle.std.proofs.lemmas.Int.{to_z-of_z}
 use Rattle.ra_ipc.specs.ChannelClients.{is_in, without}
 use Rattle.ra_ipc.specs.View.{id_of}
-use Rattle.ra_chan_client.specs.Held.{messages}
 use Rattle.ra_chan_client.proofs.client.ChannelClient.settle.Goals as goal
 
 pub invariant_of-self-2 : goal.invariant_of-self-2

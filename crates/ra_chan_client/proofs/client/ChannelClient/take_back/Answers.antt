@@ -1,8 +1,8 @@
-use Rattle.std.proofs.Common.{◌≡◌, ℕ, ◌+◌, ◌-◌, not, refl, sym, ap, subst, ◌∙◌, arith}
+use Rattle.std.proofs.Common.{◌≡◌, ℕ, ◌+◌, ◌-◌, not, ap, subst, ◌∙◌, arith}
 use Rattle.std.specs.List.{filter}
 use Rattle.std.specs.Map.{keys_of}
 use Rattle.ra_ipc.specs.Messages.{opens}
-use Rattle.ra_ipc.specs.ChannelClients.{Client, without, after_call, after_listen}
+use Rattle.ra_ipc.specs.ChannelClients.{Client, without}
 use Rattle.ra_chan_client.specs.Held.{AreIds, messages}
 use Rattle.ra_chan_client.specs.TakingBack.{taken_back}
 use Rattle.ra_chan_client.proofs.Kept.{requests_filter, messages_without, same_parts}

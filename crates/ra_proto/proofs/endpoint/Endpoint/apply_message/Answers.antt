@@ -1,4 +1,4 @@
-use Rattle.std.proofs.Common.{◌≡◌, ℕ, sym, subst}
+use Rattle.std.proofs.Common.{ℕ, sym, subst}
 use Rattle.ra_model.specs.Calls.{moment}
 use Rattle.ra_model.specs.HeardPlaces.{applied}
 use Rattle.ra_model.specs.EndpointStates.{EndpointState, StandsFor}

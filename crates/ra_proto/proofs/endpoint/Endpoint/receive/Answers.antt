@@ -1,4 +1,4 @@
-use Rattle.std.proofs.Common.{◌≡◌, ◌≤◌, cond, sym, ap, ◌∙◌, refl, arith}
+use Rattle.std.proofs.Common.{◌≡◌, ◌≤◌, cond, ap, ◌∙◌, arith}
 use Rattle.ra_model.specs.EndpointStates.{EndpointState}
 use Rattle.ra_model.specs.Endpoints.{is_up}
 use Rattle.ra_model.specs.Timing.{message_heard}

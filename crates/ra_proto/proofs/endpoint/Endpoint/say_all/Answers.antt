@@ -1,5 +1,4 @@
 use Rattle.std.proofs.Common.{◌≡◌, length, arith}
-use Rattle.std.proofs.lemmas.Bool.{eqb-true}
 use Rattle.ra_proto.proofs.SayingAll.{say_none}
 use Rattle.ra_proto.proofs.endpoint.Endpoint.say_all.Goals as goal
 

@@ -1,4 +1,4 @@
-use Rattle.std.proofs.Common.{◌≡◌, length, arith, rules}
+use Rattle.std.proofs.Common.{◌≡◌, length, rules}
 use Rattle.ra_model.specs.Timing.{watched}
 use Rattle.ra_proto.proofs.SayingAll.{said_all_consistent, said_all_stands}
 use Rattle.ra_proto.proofs.endpoint.Endpoint.say_each.Goals as goal

@@ -1,7 +1,6 @@
-use Rattle.std.proofs.Common.{◌≡◌, List, ℕ, drop, ap, ◌∙◌, sym, subst}
+use Rattle.std.proofs.Common.{◌≡◌, drop, ap, ◌∙◌, sym, subst}
 use Rattle.ra_model.specs.EndpointStates.{EndpointState, StandsFor}
 use Rattle.ra_model.specs.Taking.{take_frame}
-use Rattle.ra_proto.specs.Passed.{received}
 use Rattle.ra_proto.proofs.Peeking.{next_taken}
 use Rattle.ra_proto.proofs.endpoint.Endpoint.take_message.Goals as goal
 
