@@ -29,7 +29,7 @@ pub struct NextMessage {
 /// What `next` would hand up.
 #[derive(Debug, PartialEq, Eq, Drop)]
 pub enum Coming {
-    /// No whole frame is unread.
+    /// No whole frame is unread, or there is no link.
     Nothing,
     Message { message: NextMessage },
     /// A control, the end, or nothing: the frame is no message, or a message that came before or too early.
