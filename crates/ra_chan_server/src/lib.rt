@@ -1,0 +1,15 @@
+//! The server end of the channels of a session: requests that are active, requests that wait for their channel, and the events that
+//! are fired.
+//!
+//! It gives and takes packets. Their bytes, what carries them, and the answers to calls are not here.
+#![tactic(auto)]
+
+mod call;
+mod fault;
+mod index;
+mod request;
+mod requests;
+mod table;
+
+pub use call::{Call, Fire};
+pub use fault::ServerFault;
