@@ -1,3 +1,4 @@
 pub mod Arrivals
 pub mod Lists
 pub mod Entries
+pub mod Texts

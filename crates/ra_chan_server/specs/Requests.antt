@@ -1,6 +1,7 @@
 -- What is asked of one request that is active, and of a list of them.
 use Rattle.std.specs.Prelude.{◌≡◌, ℕ, ◌<◌, ◌^◌, List, [], ◌∷◌, Bool, true, false, Option, Some, None, if◌then◌else◌}
 use Rattle.std.specs.List.{AllByRecursion}
+use Rattle.std.specs.Str.{bytes_eq}
 use Rattle.ra_values.specs.Tree.{Tree, text}
 use Rattle.ra_values.specs.Spelling.{Fits, levels}
 use Rattle.ra_ipc.specs.ChannelServers.{Active, waiting_call, handed_call, waiting_listen, listener, Call, holds}
@@ -49,11 +50,28 @@ HaveOwnIds [] = Unit {0}
 HaveOwnIds (a ∷ others) = AllByRecursion (λ other. holds (id_in a) other ≡ false) others × HaveOwnIds others
 
 -- an id, a channel, a name and an argument that can be written
-abbrev pub CallFits : ℕ → List ℕ → List ℕ → Tree → Type 0
-CallFits id channel name arg = (id < 2 ^ 31) × Fits levels (text channel) × Fits levels (text name) × Fits levels arg
+abbrev pub RequestFits : ℕ → List ℕ → List ℕ → Tree → Type 0
+RequestFits id channel name arg = (id < 2 ^ 31) × Fits levels (text channel) × Fits levels (text name) × Fits levels arg
 
 abbrev pub ActiveFits : Active → Type 0
-ActiveFits (waiting_call id channel name arg cancelled until) = CallFits id channel name arg
+ActiveFits (waiting_call id channel name arg cancelled until) = RequestFits id channel name arg
 ActiveFits (handed_call id) = id < 2 ^ 31
 ActiveFits (waiting_listen id channel event until) = id < 2 ^ 31
 ActiveFits (listener id channel event) = id < 2 ^ 31
+
+-- whether it waits for this channel
+abbrev pub waits_for : List ℕ → Active → Bool
+waits_for channel (waiting_call id c name arg cancelled until) = bytes_eq channel c
+waits_for channel (handed_call id) = false
+waits_for channel (waiting_listen id c event until) = bytes_eq channel c
+waits_for channel (listener id c event) = false
+
+-- whether it is a listen
+abbrev pub is_listen : Active → Bool
+is_listen (waiting_call id channel name arg cancelled until) = false
+is_listen (handed_call id) = false
+is_listen (waiting_listen id channel event until) = true
+is_listen (listener id channel event) = true
+
+abbrev pub CallFits : Call → Type 0
+CallFits c = RequestFits c.id c.channel c.name c.arg

@@ -1,10 +1,11 @@
 -- How a contract sees what the calls of a channel server take and give.
-use Rattle.std.specs.Prelude.{ℕ, List, Option, Some, None, map}
+use Rattle.std.specs.Prelude.{◌≡◌, ℕ, Option, Some}
 use Rattle.ra_values.specs.View.{tree}
 use Rattle.ra_ipc.specs.View.{id_of}
 use Rattle.ra_ipc.specs.ChannelServers as model
-use Rattle.ra_chan_server.specs.Requests.{CallFits}
 use Rattle.ra_chan_server.specs.declared.call.Call.{Call}
+use Rattle.ra_chan_server.specs.declared.fault.ServerFault.{ServerFault}
+use Rattle.ra_chan_server.specs.declared.fault.ServerFault.TheVariants as fault
 use Rattle.ra_chan_server.specs.declared.request.Request.{Request}
 use Rattle.ra_chan_server.specs.declared.request.Request.TheVariants as request
 
@@ -17,6 +18,8 @@ active_of (request.HandedCall id) = model.handed_call (id_of id)
 active_of (request.WaitingListen id channel event until) = model.waiting_listen (id_of id) channel event until
 active_of (request.Listener id channel event) = model.listener (id_of id) channel event
 
--- its channel, its name and its argument can be written
-abbrev pub Writes : Call → Type 0
-Writes c = CallFits (id_of c.id) c.channel c.name (tree c.arg)
+-- the refusal that an id is active, and of which; want of memory may come at any time
+abbrev pub IsActiveId : ServerFault → Option ℕ → Type 0
+IsActiveId (fault.ActiveId id) active = active ≡ Some (id_of id)
+IsActiveId (fault.NoSuchCall id) active = ⊥
+IsActiveId fault.NoMemory active = Unit {0}

@@ -10,6 +10,7 @@ mod index;
 mod request;
 mod requests;
 mod table;
+mod unknown;
 
 pub use call::{Call, Fire};
 pub use fault::ServerFault;

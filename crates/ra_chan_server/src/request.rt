@@ -1,7 +1,8 @@
 //! A request that is active: a call until its answer, a listen until its dispose.
 ghost use Rattle.std.specs.Prelude.{◌≡◌, option_map, IfOk};
+ghost use Rattle.ra_ipc.specs.ChannelServers.{is_timed_out};
 ghost use Rattle.ra_ipc.specs.View.{id_of};
-ghost use Rattle.ra_chan_server.specs.Requests.{id_in, is_here, opened, opened_call, marked};
+ghost use Rattle.ra_chan_server.specs.Requests.{id_in, is_here, is_listen, waits_for, opened, opened_call, marked};
 ghost use Rattle.ra_chan_server.specs.View.{active_of, call_of};
 
 use crate::call::Call;
@@ -40,6 +41,13 @@ fn signed_id(request: &Request) -> i32
     }
 }
 
+/// Its id, as its 32 bits.
+pub fn id(request: &Request) -> u32
+    ensures { result ≡ id_in (active_of request.now) }
+{
+    signed_id(request).cast_unsigned()
+}
+
 /// Whether it was not handed out.
 pub fn is_here(request: &Request) -> bool
     ensures { result ≡ is_here (active_of request.now) }
@@ -49,6 +57,37 @@ pub fn is_here(request: &Request) -> bool
         Request::WaitingCall { .. }
         | Request::WaitingListen { .. }
         | Request::Listener { .. } => true,
+    }
+}
+
+/// Whether it is a listen.
+pub fn is_listen(request: &Request) -> bool
+    ensures { result ≡ is_listen (active_of request.now) }
+{
+    match request {
+        Request::WaitingListen { .. } | Request::Listener { .. } => true,
+        Request::WaitingCall { .. } | Request::HandedCall { .. } => false,
+    }
+}
+
+/// Whether it waits for this channel.
+pub fn waits_for(request: &Request, channel: &Text) -> bool
+    ensures { result ≡ waits_for channel.now (active_of request.now) }
+{
+    match request {
+        Request::WaitingCall { call, .. } => channel.as_str() == call.channel.as_str(),
+        Request::WaitingListen { channel: wanted, .. } => channel.as_str() == wanted.as_str(),
+        Request::HandedCall { .. } | Request::Listener { .. } => false,
+    }
+}
+
+/// Whether it waited for its channel until this moment, or until an earlier one.
+pub fn is_late(request: &Request, now: u64) -> bool
+    ensures { result ≡ is_timed_out now (active_of request.now) }
+{
+    match request {
+        Request::WaitingCall { until, .. } | Request::WaitingListen { until, .. } => *until <= now,
+        Request::HandedCall { .. } | Request::Listener { .. } => false,
     }
 }
 
