@@ -1,10 +1,10 @@
 -- Tests, filters and changes of lists, and of lists of requests that have their own ids.
-use Rattle.std.proofs.Common.{◌≡◌, ℕ, List, [], ◌∷◌, ◌++◌, map, Bool, true, false, not, Option, Some, None, refl, sym, ap, ◌∙◌, arith, inl, inr}
-use Rattle.std.proofs.lemmas.Bool.{cases_Bool, cond_both, eqb-true, eqb-false, ne_eqb, eq-eqb, or_parts}
+use Rattle.std.proofs.Common.{◌≡◌, ℕ, ◌<◌, ◌^◌, is_some, option_map, List, [], ◌∷◌, ◌++◌, map, Bool, true, false, not, Option, Some, None, refl, sym, ap, ◌∙◌, arith, inl, inr}
+use Rattle.std.proofs.lemmas.Bool.{cases_Bool, cond_both, eqb-true, eqb-false, ne_eqb, eq-eqb, or_parts, true≢false}
 use Rattle.std.specs.Prelude.{◌==◌, ◌||◌, if◌then◌else◌}
 use Rattle.std.specs.List.{AllByRecursion, list_any, filter, filter_map, cons_option, find}
-use Rattle.ra_ipc.specs.ChannelServers.{Call, Active, waiting_call, handed_call, waiting_listen, listener, holds, cancel_one}
-use Rattle.ra_chan_server.specs.Requests.{id_in, is_here, opened, opened_call, marked, at_id, HaveOwnIds, ActiveFits}
+use Rattle.ra_ipc.specs.ChannelServers.{Call, Active, waiting_call, handed_call, waiting_listen, listener, holds, is_handed, is_listener, cancel_one}
+use Rattle.ra_chan_server.specs.Requests.{id_in, is_here, is_listen, opened, opened_call, marked, at_id, HaveOwnIds, ActiveFits}
 use Rattle.ra_chan_server.proofs.Arrivals.{all_push, all_filter, all_more}
 
 -- ---- any list
@@ -152,3 +152,119 @@ none_has i (a ∷ xs) h = let parts = or_parts (holds i a) (list_any (holds i) x
 pub all_left : (i : ℕ) (xs : List Active) → AllByRecursion (λ a. holds i a ≡ false) xs → filter (λ a. not (holds i a)) xs ≡ xs
 all_left i [] h = refl
 all_left i (a ∷ xs) h = rw h.0 (ap (λ (w : List Active). a ∷ w) (all_left i xs h.1))
+
+-- ---- the one with an id
+
+pub any_holds : (i : ℕ) (xs : List Active) → is_some (find (holds i) xs) ≡ list_any (holds i) xs
+any_holds i [] = refl
+any_holds i (a ∷ xs) = elim (cases_Bool (holds i a)) [ inl t ↦ rw t refl | inr f ↦ rw f (any_holds i xs) ]
+
+pub some_map : {X Y : Type 0} (f : X → Y) (o : Option X) → is_some (option_map f o) ≡ is_some o
+some_map f None = refl
+some_map f (Some x) = refl
+
+id_fits : (a : Active) → ActiveFits a → id_in a < 2 ^ 31
+id_fits (waiting_call id channel name arg cancelled until) h = h.0
+id_fits (handed_call id) h = h
+id_fits (waiting_listen id channel event until) h = h
+id_fits (listener id channel event) h = h
+
+pub found_fits : (i : ℕ) (xs : List Active) (a : Active) → Some a ≡ find (holds i) xs → AllByRecursion ActiveFits xs → i < 2 ^ 31
+found_fits i [] a h fits = absurd cc
+found_fits i (x ∷ xs) a h fits = elim (cases_Bool (holds i x)) [
+  | inl t ↦ rw (has_id i x t) at (id_fits x fits.0)
+  | inr f ↦ found_fits i xs a (rw f at h) fits.1
+]
+
+-- A test of one kind of request at an id: it passes at that id alone.
+pub record IsKind (test : ℕ → Active → Bool) (kind : Active → Bool) : Type 0 where
+  pub here : (i : ℕ) (a : Active) → holds i a ≡ true → test i a ≡ kind a
+  pub other : (i : ℕ) (a : Active) → holds i a ≡ false → test i a ≡ false
+
+handed_here : (i : ℕ) (a : Active) → holds i a ≡ true → is_handed i a ≡ not (is_here a)
+handed_here i (waiting_call id channel name arg cancelled until) h = refl
+handed_here i (handed_call id) h = h
+handed_here i (waiting_listen id channel event until) h = refl
+handed_here i (listener id channel event) h = refl
+
+handed_other : (i : ℕ) (a : Active) → holds i a ≡ false → is_handed i a ≡ false
+handed_other i (waiting_call id channel name arg cancelled until) h = refl
+handed_other i (handed_call id) h = h
+handed_other i (waiting_listen id channel event until) h = refl
+handed_other i (listener id channel event) h = refl
+
+listen_here : (i : ℕ) (a : Active) → holds i a ≡ true → is_listener i a ≡ is_listen a
+listen_here i (waiting_call id channel name arg cancelled until) h = refl
+listen_here i (handed_call id) h = refl
+listen_here i (waiting_listen id channel event until) h = h
+listen_here i (listener id channel event) h = h
+
+listen_other : (i : ℕ) (a : Active) → holds i a ≡ false → is_listener i a ≡ false
+listen_other i (waiting_call id channel name arg cancelled until) h = refl
+listen_other i (handed_call id) h = refl
+listen_other i (waiting_listen id channel event until) h = h
+listen_other i (listener id channel event) h = h
+
+pub handed_kind : IsKind is_handed (λ a. not (is_here a))
+handed_kind = record { here = handed_here; other = handed_other }
+
+pub listen_kind : IsKind is_listener is_listen
+listen_kind = record { here = listen_here; other = listen_other }
+
+-- what a test of a kind tells of a list: whether it passes, what is left where it passes, and what is left where it does not
+pub record Tells (test : ℕ → Active → Bool) (i : ℕ) (xs : List Active) (passes : Bool) : Type 0 where
+  pub any : list_any (test i) xs ≡ passes
+  pub gone : passes ≡ true → filter (λ a. not (holds i a)) xs ≡ filter (λ a. not (test i a)) xs
+  pub stays : passes ≡ false → filter (λ a. not (test i a)) xs ≡ xs
+
+none_tells : (test : ℕ → Active → Bool) (kind : Active → Bool) → IsKind test kind → (i : ℕ) (xs : List Active) → AllByRecursion (λ a. holds i a ≡ false) xs → Tells test i xs false
+none_tells test kind k i [] h = record { any = refl; gone = λ t. refl; stays = λ f. refl }
+none_tells test kind k i (a ∷ xs) h =
+    let rest = none_tells test kind k i xs h.1 in
+    let no : test i a ≡ false = k.other i a h.0 in
+    record {
+      any = rw (no, rest.any) refl;
+      gone = λ t. absurd cc;
+      stays = λ f. rw no (ap (λ (w : List Active). a ∷ w) (rest.stays refl));
+    }
+
+pub found_tells : (test : ℕ → Active → Bool) (kind : Active → Bool) → IsKind test kind → (i : ℕ) (xs : List Active) (a : Active) → HaveOwnIds xs → Some a ≡ find (holds i) xs → Tells test i xs (kind a)
+found_tells test kind k i [] a own h = absurd cc
+found_tells test kind k i (x ∷ xs) a own h = elim (cases_Bool (holds i x)) [
+  | inl t ↦
+    let is : Some a ≡ Some x = rw t at h in
+    let same : a ≡ x = cc in
+    let lack : AllByRecursion (λ b. holds i b ≡ false) xs = rw (has_id i x t) at own.0 in
+    let none = none_tells test kind k i xs lack in
+    let tested : test i x ≡ kind a = k.here i x t ∙ ap kind (sym same) in
+    elim (cases_Bool (kind a)) [
+      | inl u ↦ record {
+        any = rw (tested, u) refl;
+        gone = λ v. rw (t, tested, u) (all_left i xs lack ∙ sym (none.stays refl));
+        stays = λ f. absurd (true≢false (sym u ∙ f));
+      }
+      | inr g ↦ record {
+        any = rw (tested, g, none.any) refl;
+        gone = λ v. absurd (true≢false (sym v ∙ g));
+        stays = λ f. rw (tested, g) (ap (λ (w : List Active). x ∷ w) (none.stays refl));
+      }
+    ]
+  | inr f ↦
+    let rest = found_tells test kind k i xs a own.1 (rw f at h) in
+    let no : test i x ≡ false = k.other i x f in
+    record {
+      any = rw (no, rest.any) refl;
+      gone = λ v. rw (f, no) (ap (λ (w : List Active). x ∷ w) (rest.gone v));
+      stays = λ v. rw no (ap (λ (w : List Active). x ∷ w) (rest.stays v));
+    }
+]
+
+none_found : (i : ℕ) (xs : List Active) → None ≡ find (holds i) xs → AllByRecursion (λ a. holds i a ≡ false) xs
+none_found i [] h = tt
+none_found i (x ∷ xs) h = elim (cases_Bool (holds i x)) [
+  | inl t ↦ absurd (let no : None ≡ Some x = rw t at h in cc)
+  | inr f ↦ (f, none_found i xs (rw f at h))
+]
+
+pub not_found_tells : (test : ℕ → Active → Bool) (kind : Active → Bool) → IsKind test kind → (i : ℕ) (xs : List Active) → None ≡ find (holds i) xs → Tells test i xs false
+not_found_tells test kind k i xs h = none_tells test kind k i xs (none_found i xs h)

@@ -6,11 +6,13 @@
 
 mod call;
 mod fault;
+mod firing;
 mod index;
 mod request;
 mod requests;
 mod table;
 mod unknown;
+mod waiting;
 
 pub use call::{Call, Fire};
 pub use fault::ServerFault;

@@ -1,14 +1,15 @@
 //! The requests that are active, in the order in which they came.
-ghost use Rattle.std.specs.Prelude.{◌≡◌, [], ◌++◌, ◌∷◌, false, not, map, option_map, IfOk, OnOk, OnErr};
+ghost use Rattle.std.specs.Prelude.{◌≡◌, ◌<◌, ◌^◌, [], ◌++◌, ◌∷◌, false, not, map, option_map, IfOk, OnOk, OnErr};
 ghost use Rattle.std.specs.List.{AllByRecursion, filter, find, list_any};
+ghost use Rattle.std.specs.Bool.{OnTrue, OnFalse};
 ghost use Rattle.std.specs.Option.{option_and_then};
-ghost use Rattle.ra_ipc.specs.ChannelServers.{holds, cancel_one};
+ghost use Rattle.ra_ipc.specs.ChannelServers.{holds, is_handed, is_listener, cancel_one};
 ghost use Rattle.ra_chan_server.specs.Requests.{id_in, is_here, opened, opened_call, at_id, HaveOwnIds, ActiveFits};
 ghost use Rattle.ra_chan_server.specs.View.{active_of, call_of};
 
 use crate::call::Call;
 use crate::index;
-use crate::request::Request;
+use crate::request::{self, Request};
 use crate::table;
 use ra_values::NoMemory;
 use std::alloc::Global;
@@ -59,10 +60,41 @@ impl Requests {
     /// The request with this id.
     pub fn find(&self, id: u32) -> Option<&Request>
         ensures own { HaveOwnIds self.now }
+        ensures fits { AllByRecursion ActiveFits self.now }
         ensures found { option_map (λ r. active_of r.now) result ≡ find (holds id) self.now }
     {
         let (_, request) = table::find(&self.by_arrival, &self.arrivals, id)?;
         Some(request)
+    }
+
+    /// Whether the id is active.
+    pub fn has(&self, id: u32) -> bool
+        ensures { result ≡ list_any (holds id) self.now }
+    {
+        self.find(id).is_some()
+    }
+
+    /// Whether the id is that of a call that was handed out.
+    fn was_handed(&self, id: u32) -> bool
+        ensures found { result ≡ list_any (is_handed id) self.now }
+        ensures fits { OnTrue result (id < 2 ^ 31) }
+        ensures one { OnTrue result (filter (λ a. not (holds id a)) self.now ≡ filter (λ a. not (is_handed id a)) self.now) }
+    {
+        match self.find(id) {
+            Some(request) => !request::is_here(request),
+            None => false,
+        }
+    }
+
+    /// Whether the id is that of a listen.
+    fn has_listen(&self, id: u32) -> bool
+        ensures yes { OnTrue result (filter (λ a. not (holds id a)) self.now ≡ filter (λ a. not (is_listener id a)) self.now) }
+        ensures no { OnFalse result (self.now ≡ filter (λ a. not (is_listener id a)) self.now) }
+    {
+        match self.find(id) {
+            Some(request) => request::is_listen(request),
+            None => false,
+        }
     }
 
     /// Adds a request whose id is not active. It is refused for want of memory, and where no arrival is left.
@@ -100,6 +132,29 @@ impl Requests {
                 id,
                 arrival,
             );
+        }
+    }
+
+    /// Ends the call with this id that was handed out, and tells whether there was one.
+    pub fn complete(&mut self, id: u32) -> bool
+        ensures found { result ≡ list_any (is_handed id) self.old }
+        ensures after { OnTrue result (self.new ≡ filter (λ a. not (is_handed id a)) self.old) }
+        ensures same { OnFalse result (self.new ≡ self.old) }
+        ensures fits { OnTrue result (id < 2 ^ 31) }
+    {
+        if !self.was_handed(id) {
+            return false;
+        }
+        self.take(id);
+        true
+    }
+
+    /// Ends the listen with this id, if there is one.
+    pub fn dispose(&mut self, id: u32)
+        ensures { self.new ≡ filter (λ a. not (is_listener id a)) self.old }
+    {
+        if self.has_listen(id) {
+            self.take(id);
         }
     }
 
