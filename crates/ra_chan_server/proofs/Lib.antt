@@ -1,4 +1,5 @@
 pub mod Arrivals
 pub mod Lists
 pub mod Entries
+pub mod Several
 pub mod Texts

@@ -1,6 +1,8 @@
 -- Tests, filters and changes of lists, and of lists of requests that have their own ids.
-use Rattle.std.proofs.Common.{◌≡◌, ℕ, ◌<◌, ◌^◌, is_some, option_map, List, [], ◌∷◌, ◌++◌, map, Bool, true, false, not, Option, Some, None, refl, sym, ap, ◌∙◌, arith, inl, inr}
+use Rattle.std.proofs.Common.{◌≡◌, ℕ, zero, suc, ◌+◌, ◌<◌, ◌^◌, length, take, get_or, is_some, option_map, List, [], ◌∷◌, ◌++◌, map, Bool, true, false, not, Option, Some, None, refl, sym, ap, ◌∙◌, arith, inl, inr}
 use Rattle.std.proofs.lemmas.Bool.{cases_Bool, cond_both, eqb-true, eqb-false, ne_eqb, eq-eqb, or_parts, true≢false}
+use Rattle.std.proofs.lemmas.List.{take_more, map-append}
+use Rattle.std.proofs.lemmas.List.Elements.{filter_map-append}
 use Rattle.std.specs.Prelude.{◌==◌, ◌||◌, if◌then◌else◌}
 use Rattle.std.specs.List.{AllByRecursion, list_any, filter, filter_map, cons_option, find}
 use Rattle.ra_ipc.specs.ChannelServers.{Call, Active, waiting_call, handed_call, waiting_listen, listener, holds, is_handed, is_listener, cancel_one}
@@ -40,6 +42,21 @@ pub all_append : {X : Type 0} (P : X → Type 0) (xs ys : List X) → AllByRecur
 all_append P [] ys h = (tt, h)
 all_append P (x ∷ xs) ys h = let rest = all_append P xs ys h.1 in ((h.0, rest.0), rest.1)
 
+-- ---- lists by their indices
+
+pub all_at : {X Y : Type 0} (P : Y → Type 0) (f : X → Y) (xs : List X) (i : ℕ) (x : X) → AllByRecursion P (map f xs) → i < length xs → x ≡ get_or xs i x → P (f x)
+all_at P f [] i x h lt is = absurd (omega arith)
+all_at P f (y ∷ ys) zero x h lt is = rw is h.0
+all_at P f (y ∷ ys) (suc i) x h lt is = all_at P f ys i x h.1 (omega arith) is
+
+pub next_found : {X Y Z : Type 0} (f : X → Y) (h : Y → Option Z) (xs : List X) (i : ℕ) (x : X) (olds news : List Z) (found : Option Z) →
+    i < length xs → x ≡ get_or xs i x → olds ≡ filter_map h (map f (take i xs)) → found ≡ h (f x) → news ≡ olds ++ cons_option found [] → news ≡ filter_map h (map f (take (i + 1) xs))
+next_found f h xs i x olds news found lt is before here after =
+    let more : take (i + 1) xs ≡ take i xs ++ x ∷ [] = take_more xs i x lt ∙ ap (λ y. take i xs ++ y ∷ []) (sym is) in
+    let listed : filter_map h (map f (take (i + 1) xs)) ≡ filter_map h (map f (take i xs)) ++ cons_option (h (f x)) [] =
+    ap (λ ys. filter_map h (map f ys)) more ∙ ap (filter_map h) (map-append f (take i xs) (x ∷ [])) ∙ filter_map-append h (map f (take i xs)) (f x ∷ []) in
+    after ∙ ap (λ ys. ys ++ cons_option found []) before ∙ ap (λ o. filter_map h (map f (take i xs)) ++ cons_option o []) here ∙ sym listed
+
 -- ---- ids
 
 pub holds_is : (i : ℕ) (a : Active) → holds i a ≡ (id_in a == i)
@@ -57,7 +74,7 @@ holds_own a = holds_is (id_in a) a ∙ eq-eqb (id_in a) (id_in a) refl
 pub other_id : (i j : ℕ) (a : Active) → holds i a ≡ true → (j == i) ≡ false → holds j a ≡ false
 other_id i j a h ne = let same : id_in a ≡ i = has_id i a h in holds_is j a ∙ ne_eqb (id_in a) j (λ e. eqb-false j i ne (sym e ∙ same))
 
-apart : (a b : Active) → holds (id_in b) a ≡ false → holds (id_in a) b ≡ false
+pub apart : (a b : Active) → holds (id_in b) a ≡ false → holds (id_in a) b ≡ false
 apart a b h = holds_is (id_in a) b ∙ ne_eqb (id_in b) (id_in a) (λ e. eqb-false (id_in a) (id_in b) (sym (holds_is (id_in b) a) ∙ h) (sym e))
 
 -- ---- each id once

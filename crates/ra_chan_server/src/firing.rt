@@ -10,13 +10,15 @@ ghost use Rattle.ra_chan_server.specs.Requests.{ActiveFits};
 ghost use Rattle.ra_chan_server.specs.View.{active_of};
 
 use crate::call::Fire;
+use crate::packets;
 use crate::request::Request;
+use crate::requests::Requests;
 use ra_ipc::Packet;
 use ra_values::NoMemory;
 use std::alloc::Global;
 
 /// The packet, where it is a listener of the event.
-fn packet(alloc: Global, request: &Request, fire: &Fire) -> Result<Option<Packet>, NoMemory>
+fn fired(alloc: Global, request: &Request, fire: &Fire) -> Result<Option<Packet>, NoMemory>
     requires body { Fits levels (tree fire.now.body) }
     requires request { ActiveFits (active_of request.now) }
     ensures packet { IfOk result (λ p. option_map message p ≡ fire_one fire.now.channel fire.now.event (tree fire.now.body) (active_of request.now)) }
@@ -31,8 +33,8 @@ fn packet(alloc: Global, request: &Request, fire: &Fire) -> Result<Option<Packet
     Ok(None)
 }
 
-/// The packets for the listeners of the event, in order.
-pub fn packets(
+/// The packets for the listeners of the event among them, in order.
+fn fires_among(
     alloc: Global,
     requests: &[&Request],
     fire: &Fire,
@@ -44,9 +46,20 @@ pub fn packets(
 {
     let mut packets = Vec::new(alloc);
     for request in requests {
-        if let Some(packet) = packet(alloc, request, fire)? {
-            packets.push(packet)?;
-        }
+        let packet = fired(alloc, request, fire)?;
+        packets::add(&mut packets, packet)?;
     }
     Ok(packets)
+}
+
+impl Requests {
+    /// The packets for the listeners of the event, in order.
+    pub fn fires(&self, alloc: Global, fire: &Fire) -> Result<Vec<Packet>, NoMemory>
+        requires { Fits levels (tree fire.now.body) }
+        ensures packets { IfOk result (λ packets. map message packets.items ≡ filter_map (fire_one fire.now.channel fire.now.event (tree fire.now.body)) self.now) }
+        ensures fits { IfOk result (λ packets. AllByRecursion MessageFits (map message packets.items)) }
+    {
+        let found = self.listed(alloc)?;
+        fires_among(alloc, found.as_slice(), fire)
+    }
 }

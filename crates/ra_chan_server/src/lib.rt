@@ -7,12 +7,16 @@
 mod call;
 mod fault;
 mod firing;
+mod groups;
 mod index;
+mod packets;
 mod request;
 mod requests;
+mod server;
 mod table;
 mod unknown;
 mod waiting;
 
 pub use call::{Call, Fire};
 pub use fault::ServerFault;
+pub use server::ChannelServer;

@@ -4,17 +4,19 @@ ghost use Rattle.std.specs.List.{AllByRecursion, filter, filter_map};
 ghost use Rattle.ra_ipc.specs.Packets.{MessageFits};
 ghost use Rattle.ra_ipc.specs.View.{message};
 ghost use Rattle.ra_ipc.specs.ChannelServers.{is_timed_out, timeout_one};
-ghost use Rattle.ra_chan_server.specs.Requests.{id_in, waits_for, ActiveFits};
+ghost use Rattle.ra_chan_server.specs.Requests.{id_in, waits_for, HaveOwnIds, ActiveFits};
 ghost use Rattle.ra_chan_server.specs.View.{active_of};
 
+use crate::packets;
 use crate::request::{self, Request};
+use crate::requests::Requests;
 use crate::unknown;
 use ra_ipc::Packet;
 use ra_values::{NoMemory, Text};
 use std::alloc::Global;
 
-/// The ids of those that wait for this channel, in order.
-pub fn ids_waiting(
+/// The ids of those among them that wait for this channel, in order.
+fn waiting_among(
     alloc: Global,
     requests: &[&Request],
     channel: &Text,
@@ -30,8 +32,8 @@ pub fn ids_waiting(
     Ok(ids)
 }
 
-/// The ids of those that waited too long, in order.
-pub fn ids_late(alloc: Global, requests: &[&Request], now: u64) -> Result<Vec<u32>, NoMemory>
+/// The ids of those among them that waited too long, in order.
+fn late_among(alloc: Global, requests: &[&Request], now: u64) -> Result<Vec<u32>, NoMemory>
     ensures { IfOk result (λ ids. ids.items ≡ map id_in (filter (is_timed_out now) (map (λ r. active_of r.now) requests.now))) }
 {
     let mut ids = Vec::new(alloc);
@@ -58,8 +60,8 @@ fn answer(alloc: Global, request: &Request, now: u64) -> Result<Option<Packet>, 
     Ok(None)
 }
 
-/// The answers to the calls that waited too long, in order.
-pub fn answers(
+/// The answers to the calls among them that waited too long, in order.
+fn answers_among(
     alloc: Global,
     requests: &[&Request],
     now: u64,
@@ -70,9 +72,38 @@ pub fn answers(
 {
     let mut packets = Vec::new(alloc);
     for request in requests {
-        if let Some(packet) = answer(alloc, request, now)? {
-            packets.push(packet)?;
-        }
+        let packet = answer(alloc, request, now)?;
+        packets::add(&mut packets, packet)?;
     }
     Ok(packets)
+}
+
+impl Requests {
+    /// The ids of those that wait for this channel, in order.
+    pub fn ids_waiting(&self, alloc: Global, channel: &Text) -> Result<Vec<u32>, NoMemory>
+        ensures own { HaveOwnIds self.now }
+        ensures fits { AllByRecursion ActiveFits self.now }
+        ensures ids { IfOk result (λ ids. ids.items ≡ map id_in (filter (waits_for channel.now) self.now)) }
+    {
+        let found = self.listed(alloc)?;
+        waiting_among(alloc, found.as_slice(), channel)
+    }
+
+    /// The ids of those that waited too long, in order.
+    pub fn ids_late(&self, alloc: Global, now: u64) -> Result<Vec<u32>, NoMemory>
+        ensures own { HaveOwnIds self.now }
+        ensures ids { IfOk result (λ ids. ids.items ≡ map id_in (filter (is_timed_out now) self.now)) }
+    {
+        let found = self.listed(alloc)?;
+        late_among(alloc, found.as_slice(), now)
+    }
+
+    /// The answers to the calls that waited too long, in order.
+    pub fn answers(&self, alloc: Global, now: u64) -> Result<Vec<Packet>, NoMemory>
+        ensures packets { IfOk result (λ packets. map message packets.items ≡ filter_map (timeout_one now) self.now) }
+        ensures fits { IfOk result (λ packets. AllByRecursion MessageFits (map message packets.items)) }
+    {
+        let found = self.listed(alloc)?;
+        answers_among(alloc, found.as_slice(), now)
+    }
 }
