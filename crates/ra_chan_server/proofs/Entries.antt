@@ -124,8 +124,8 @@ one_by_both : (i k : ℕ) (es : List (ℕ × Request)) → arrival_of i es ≡ S
 one_by_both i k [] h a own = tt
 one_by_both i k (e ∷ es) h a own = elim (cases_Bool (holds i (active_of e.1))) [
   | inl t ↦ let is : Some e.0 ≡ Some k = rw t at h in let same : e.0 ≡ k = cc in
-    let lack : AllByRecursion (λ b. holds i b ≡ false) (actives es) = rw (has_id i (active_of e.1) t) at own.0 in
-    (rw (eq-eqb e.0 k same, t) refl, keys_apart k es i e.0 same a.0 lack)
+      let lack : AllByRecursion (λ b. holds i b ≡ false) (actives es) = rw (has_id i (active_of e.1) t) at own.0 in
+      (rw (eq-eqb e.0 k same, t) refl, keys_apart k es i e.0 same a.0 lack)
   | inr f ↦ (rw (ne_eqb e.0 k (omega (arith, later i k e.0 es (rw f at h) a.0)), f) refl, one_by_both i k es (rw f at h) a.1 own.1)
 ]
 
@@ -175,14 +175,16 @@ pub held_take : (n i k : ℕ) (es fs : List (ℕ × Request)) (arrivals named : 
 held_take n i k es fs arrivals named hs gs held found goes gives left =
     let by_key : fs ≡ filter (λ e. not (e.0 == k)) es = goes ∙ entry_goes k es held.order.ascending in
     let by_id : fs ≡ filter (λ e. not (holds i (active_of e.1))) es = by_key ∙ filter_alike (λ (e : ℕ × Request). not (e.0 == k)) (λ e. not (holds i (active_of e.1))) es (one_by_both i k es found held.order.ascending held.own) in
-    let left_actives : actives fs ≡ filter (λ a. not (holds i a)) (actives es) = ap actives by_id ∙ filter-map (λ (e : ℕ × Request). active_of e.1) (λ a. not (holds i a)) es in
-    (record {
-      order = rw (by_key, keys_without k es) (arrivals_filter n (λ j. not (j == k)) (keys_of es) held.order);
-      own = rw left_actives (own_filter (λ a. not (holds i a)) (actives es) held.own);
-      found = λ j. gives j ∙ ap (λ (w : Option ℕ). if j == i then None else w) (held.found j) ∙ sym (arrival_filter i j es) ∙ ap (arrival_of j) (sym by_id);
-      here = left ∙ ap (without k) held.here ∙ sym (here_filter k es) ∙ ap here (sym by_key);
-      fits = rw left_actives (all_filter ActiveFits (λ a. not (holds i a)) (actives es) held.fits);
-    }, left_actives)
+    let left_actives : actives fs ≡ filter (λ a. not (holds i a)) (actives es) = ap actives by_id ∙ filter-map (λ (e : ℕ × Request). active_of e.1) (λ a. not (holds i a)) es in (
+      record {
+        order = rw (by_key, keys_without k es) (arrivals_filter n (λ j. not (j == k)) (keys_of es) held.order);
+        own = rw left_actives (own_filter (λ a. not (holds i a)) (actives es) held.own);
+        found = λ j. gives j ∙ ap (λ (w : Option ℕ). if j == i then None else w) (held.found j) ∙ sym (arrival_filter i j es) ∙ ap (arrival_of j) (sym by_id);
+        here = left ∙ ap (without k) held.here ∙ sym (here_filter k es) ∙ ap here (sym by_key);
+        fits = rw left_actives (all_filter ActiveFits (λ a. not (holds i a)) (actives es) held.fits);
+      },
+      left_actives,
+    )
 
 -- ---- one changed
 
@@ -191,14 +193,14 @@ set_actives : (f : Active → Active) (i k : ℕ) (es : List (ℕ × Request)) (
 set_actives f i k [] r w h a own looks same = refl
 set_actives f i k (e ∷ es) r w h a own looks same = elim (cases_Bool (holds i (active_of e.1))) [
   | inl t ↦ let is : Some e.0 ≡ Some k = rw t at h in let key : e.0 ≡ k = cc in
-    let here_at : is_at (nat_cmp k) e.0 ≡ true = at_is k e.0 ∙ eq-eqb e.0 k key in
-    let found : Some e.1 ≡ Some r = rw here_at at looks in
-    let one : e.1 ≡ r = cc in
-    let lack : AllByRecursion (λ b. holds i b ≡ false) (actives es) = rw (has_id i (active_of e.1) t) at own.0 in
-    rw (here_at, t, none_changes i f (actives es) lack) (ap (λ (b : Active). b ∷ actives es) (same ∙ ap (λ (q : Request). f (active_of q)) (sym one)))
+      let here_at : is_at (nat_cmp k) e.0 ≡ true = at_is k e.0 ∙ eq-eqb e.0 k key in
+      let found : Some e.1 ≡ Some r = rw here_at at looks in
+      let one : e.1 ≡ r = cc in
+      let lack : AllByRecursion (λ b. holds i b ≡ false) (actives es) = rw (has_id i (active_of e.1) t) at own.0 in
+      rw (here_at, t, none_changes i f (actives es) lack) (ap (λ (b : Active). b ∷ actives es) (same ∙ ap (λ (q : Request). f (active_of q)) (sym one)))
   | inr g ↦
-    let not_at : is_at (nat_cmp k) e.0 ≡ false = at_is k e.0 ∙ ne_eqb e.0 k (omega (arith, later i k e.0 es (rw g at h) a.0)) in
-    rw (not_at, g) (ap (λ (b : List Active). active_of e.1 ∷ b) (set_actives f i k es r w (rw g at h) a.1 own.1 (rw not_at at looks) same))
+      let not_at : is_at (nat_cmp k) e.0 ≡ false = at_is k e.0 ∙ ne_eqb e.0 k (omega (arith, later i k e.0 es (rw g at h) a.0)) in
+      rw (not_at, g) (ap (λ (b : List Active). active_of e.1 ∷ b) (set_actives f i k es r w (rw g at h) a.1 own.1 (rw not_at at looks) same))
 ]
 
 set_arrival : (j k : ℕ) (es : List (ℕ × Request)) (r w : Request) → lookup (is_at (nat_cmp k)) es ≡ Some r → holds j (active_of w) ≡ holds j (active_of r) → arrival_of j (set_value (is_at (nat_cmp k)) es w) ≡ arrival_of j es
@@ -212,7 +214,7 @@ set_here : (k : ℕ) (es : List (ℕ × Request)) (r w : Request) → lookup (is
 set_here k [] r w looks same = refl
 set_here k (e ∷ es) r w looks same = elim (cases_Bool (is_at (nat_cmp k) e.0)) [
   | inl t ↦ let found : Some e.1 ≡ Some r = rw t at looks in let one : e.1 ≡ r = cc in
-    elim (cases_Bool (is_here (active_of r))) [ inl u ↦ rw (t, same, one, u) refl | inr g ↦ rw (t, same, one, g) refl ]
+      elim (cases_Bool (is_here (active_of r))) [ inl u ↦ rw (t, same, one, u) refl | inr g ↦ rw (t, same, one, g) refl ]
   | inr f ↦ elim (cases_Bool (is_here (active_of e.1))) [ inl u ↦ rw (f, u) (ap (λ (x : List ℕ). e.0 ∷ x) (set_here k es r w (rw f at looks) same)) | inr g ↦ rw (f, g) (set_here k es r w (rw f at looks) same) ]
 ]
 
@@ -220,19 +222,19 @@ unset_here : (k : ℕ) (es : List (ℕ × Request)) (r w : Request) → lookup (
 unset_here k [] r w looks gone a = refl
 unset_here k (e ∷ es) r w looks gone a = elim (cases_Bool (e.0 == k)) [
   | inl t ↦
-    let key : e.0 ≡ k = eqb-true e.0 k t in
-    let stays : without k (here es) ≡ here es = all_stay e.0 k (here es) key (here_above e.0 es a.0) in
-    elim (cases_Bool (is_here (active_of e.1))) [
-      | inl u ↦ rw (at_is k e.0, t, gone, u, t) (sym stays)
-      | inr g ↦ rw (at_is k e.0, t, gone, g) (sym stays)
-    ]
+      let key : e.0 ≡ k = eqb-true e.0 k t in
+      let stays : without k (here es) ≡ here es = all_stay e.0 k (here es) key (here_above e.0 es a.0) in
+      elim (cases_Bool (is_here (active_of e.1))) [
+        | inl u ↦ rw (at_is k e.0, t, gone, u, t) (sym stays)
+        | inr g ↦ rw (at_is k e.0, t, gone, g) (sym stays)
+      ]
   | inr f ↦
-    let not_at : is_at (nat_cmp k) e.0 ≡ false = at_is k e.0 ∙ f in
-    let rest = unset_here k es r w (rw not_at at looks) gone a.1 in
-    elim (cases_Bool (is_here (active_of e.1))) [
-      | inl u ↦ rw (not_at, u, f) (ap (λ (x : List ℕ). e.0 ∷ x) rest)
-      | inr g ↦ rw (not_at, g) rest
-    ]
+      let not_at : is_at (nat_cmp k) e.0 ≡ false = at_is k e.0 ∙ f in
+      let rest = unset_here k es r w (rw not_at at looks) gone a.1 in
+      elim (cases_Bool (is_here (active_of e.1))) [
+        | inl u ↦ rw (not_at, u, f) (ap (λ (x : List ℕ). e.0 ∷ x) rest)
+        | inr g ↦ rw (not_at, g) rest
+      ]
 ]
 
 pub held_set : (f : Active → Active) (n i k : ℕ) (es fs : List (ℕ × Request)) (arrivals : List (ℕ × ℕ)) (hs gs : List ℕ) (r w : Request) →
@@ -241,14 +243,16 @@ pub held_set : (f : Active → Active) (n i k : ℕ) (es fs : List (ℕ × Reque
     AreHeld n fs arrivals gs × (actives fs ≡ map (at_id i f) (actives es))
 held_set f n i k es fs arrivals hs gs r w keeps_id keeps_fit held found looks same set left =
     let changed : actives fs ≡ map (at_id i f) (actives es) = ap actives set ∙ set_actives f i k es r w found held.order.ascending held.own looks same in
-    let same_id : (j : ℕ) → holds j (active_of w) ≡ holds j (active_of r) = λ j. holds_is j (active_of w) ∙ ap (λ (a : Active). id_in a == j) same ∙ ap (λ (m : ℕ). m == j) (keeps_id (active_of r)) ∙ sym (holds_is j (active_of r)) in
-    (record {
-      order = rw (set, keys-set_value) held.order;
-      own = rw changed (own_map (at_id i f) (keeps_id_at i f keeps_id) (actives es) held.own);
-      found = λ j. held.found j ∙ sym (set_arrival j k es r w looks (same_id j)) ∙ ap (arrival_of j) (sym set);
-      here = left;
-      fits = rw changed (fits_at i f keeps_fit (actives es) held.fits);
-    }, changed)
+    let same_id : (j : ℕ) → holds j (active_of w) ≡ holds j (active_of r) = λ j. holds_is j (active_of w) ∙ ap (λ (a : Active). id_in a == j) same ∙ ap (λ (m : ℕ). m == j) (keeps_id (active_of r)) ∙ sym (holds_is j (active_of r)) in (
+      record {
+        order = rw (set, keys-set_value) held.order;
+        own = rw changed (own_map (at_id i f) (keeps_id_at i f keeps_id) (actives es) held.own);
+        found = λ j. held.found j ∙ sym (set_arrival j k es r w looks (same_id j)) ∙ ap (arrival_of j) (sym set);
+        here = left;
+        fits = rw changed (fits_at i f keeps_fit (actives es) held.fits);
+      },
+      changed,
+    )
 
 pub held_mark : (n i k : ℕ) (es fs : List (ℕ × Request)) (arrivals : List (ℕ × ℕ)) (hs : List ℕ) (r : Request) →
     AreHeld n es arrivals hs → Some k ≡ arrival_of i es → Some r ≡ request_of i es → SetAt marked k es fs →

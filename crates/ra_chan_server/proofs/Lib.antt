@@ -3,3 +3,4 @@ pub mod Lists
 pub mod Entries
 pub mod Several
 pub mod Texts
+pub mod Ids

@@ -89,11 +89,12 @@ own_push (a ∷ xs) b h n = (all_push (λ other. holds (id_in a) other ≡ false
 
 pub own_map : (f : Active → Active) → ((a : Active) → id_in (f a) ≡ id_in a) → (xs : List Active) → HaveOwnIds xs → HaveOwnIds (map f xs)
 own_map f same [] h = tt
-own_map f same (a ∷ xs) h =
-    (all_map (λ other. holds (id_in (f a)) other ≡ false) f xs
-    (all_more (λ other. holds (id_in a) other ≡ false) (λ other. holds (id_in (f a)) (f other) ≡ false) xs
-    (λ other e. holds_is (id_in (f a)) (f other) ∙ ap (λ (i : ℕ). i == id_in (f a)) (same other) ∙ ap (λ (i : ℕ). id_in other == i) (same a) ∙ sym (holds_is (id_in a) other) ∙ e) h.0),
-    own_map f same xs h.1)
+own_map f same (a ∷ xs) h = (
+  all_map (λ other. holds (id_in (f a)) other ≡ false) f xs
+      (all_more (λ other. holds (id_in a) other ≡ false) (λ other. holds (id_in (f a)) (f other) ≡ false) xs
+      (λ other e. holds_is (id_in (f a)) (f other) ∙ ap (λ (i : ℕ). i == id_in (f a)) (same other) ∙ ap (λ (i : ℕ). id_in other == i) (same a) ∙ sym (holds_is (id_in a) other) ∙ e) h.0),
+  own_map f same xs h.1,
+)
 
 -- ---- changes at an id
 
@@ -249,31 +250,31 @@ pub found_tells : (test : ℕ → Active → Bool) (kind : Active → Bool) → 
 found_tells test kind k i [] a own h = absurd cc
 found_tells test kind k i (x ∷ xs) a own h = elim (cases_Bool (holds i x)) [
   | inl t ↦
-    let is : Some a ≡ Some x = rw t at h in
-    let same : a ≡ x = cc in
-    let lack : AllByRecursion (λ b. holds i b ≡ false) xs = rw (has_id i x t) at own.0 in
-    let none = none_tells test kind k i xs lack in
-    let tested : test i x ≡ kind a = k.here i x t ∙ ap kind (sym same) in
-    elim (cases_Bool (kind a)) [
-      | inl u ↦ record {
-        any = rw (tested, u) refl;
-        gone = λ v. rw (t, tested, u) (all_left i xs lack ∙ sym (none.stays refl));
-        stays = λ f. absurd (true≢false (sym u ∙ f));
-      }
-      | inr g ↦ record {
-        any = rw (tested, g, none.any) refl;
-        gone = λ v. absurd (true≢false (sym v ∙ g));
-        stays = λ f. rw (tested, g) (ap (λ (w : List Active). x ∷ w) (none.stays refl));
-      }
-    ]
+      let is : Some a ≡ Some x = rw t at h in
+      let same : a ≡ x = cc in
+      let lack : AllByRecursion (λ b. holds i b ≡ false) xs = rw (has_id i x t) at own.0 in
+      let none = none_tells test kind k i xs lack in
+      let tested : test i x ≡ kind a = k.here i x t ∙ ap kind (sym same) in
+      elim (cases_Bool (kind a)) [
+        | inl u ↦ record {
+          any = rw (tested, u) refl;
+          gone = λ v. rw (t, tested, u) (all_left i xs lack ∙ sym (none.stays refl));
+          stays = λ f. absurd (true≢false (sym u ∙ f));
+        }
+        | inr g ↦ record {
+          any = rw (tested, g, none.any) refl;
+          gone = λ v. absurd (true≢false (sym v ∙ g));
+          stays = λ f. rw (tested, g) (ap (λ (w : List Active). x ∷ w) (none.stays refl));
+        }
+      ]
   | inr f ↦
-    let rest = found_tells test kind k i xs a own.1 (rw f at h) in
-    let no : test i x ≡ false = k.other i x f in
-    record {
-      any = rw (no, rest.any) refl;
-      gone = λ v. rw (f, no) (ap (λ (w : List Active). x ∷ w) (rest.gone v));
-      stays = λ v. rw no (ap (λ (w : List Active). x ∷ w) (rest.stays v));
-    }
+      let rest = found_tells test kind k i xs a own.1 (rw f at h) in
+      let no : test i x ≡ false = k.other i x f in
+      record {
+        any = rw (no, rest.any) refl;
+        gone = λ v. rw (f, no) (ap (λ (w : List Active). x ∷ w) (rest.gone v));
+        stays = λ v. rw no (ap (λ (w : List Active). x ∷ w) (rest.stays v));
+      }
 ]
 
 none_found : (i : ℕ) (xs : List Active) → None ≡ find (holds i) xs → AllByRecursion (λ a. holds i a ≡ false) xs

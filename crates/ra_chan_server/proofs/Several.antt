@@ -55,11 +55,11 @@ pub left_is : (p : Active → Bool) (xs ys : List Active) → HaveOwnIds (xs ++ 
 left_is p xs [] own = refl
 left_is p xs (y ∷ ys) own = elim (cases_Bool (p y)) [
   | inl t ↦
-    let goes : filter (λ b. not (holds (id_in y) b)) (xs ++ y ∷ ys) ≡ xs ++ ys = one_goes xs y ys own in
-    rw t (ap (left_after (map id_in (filter p ys))) goes ∙ left_is p xs ys (rw goes at (own_filter (λ b. not (holds (id_in y) b)) (xs ++ y ∷ ys) own)))
+      let goes : filter (λ b. not (holds (id_in y) b)) (xs ++ y ∷ ys) ≡ xs ++ ys = one_goes xs y ys own in
+      rw t (ap (left_after (map id_in (filter p ys))) goes ∙ left_is p xs ys (rw goes at (own_filter (λ b. not (holds (id_in y) b)) (xs ++ y ∷ ys) own)))
   | inr f ↦
-    let same : (xs ++ y ∷ []) ++ ys ≡ xs ++ y ∷ ys = append_assoc xs (y ∷ []) ys in
-    rw f (ap (left_after (map id_in (filter p ys))) (sym same) ∙ left_is p (xs ++ y ∷ []) ys (subst HaveOwnIds (sym same) own) ∙ append_assoc xs (y ∷ []) (filter (λ a. not (p a)) ys))
+      let same : (xs ++ y ∷ []) ++ ys ≡ xs ++ y ∷ ys = append_assoc xs (y ∷ []) ys in
+      rw f (ap (left_after (map id_in (filter p ys))) (sym same) ∙ left_is p (xs ++ y ∷ []) ys (subst HaveOwnIds (sym same) own) ∙ append_assoc xs (y ∷ []) (filter (λ a. not (p a)) ys))
 ]
 
 -- ---- a channel that is registered
@@ -81,22 +81,24 @@ pub opens_are : (channel : List ℕ) (xs ys : List Active) → HaveOwnIds (xs ++
 opens_are channel xs [] own = (refl, refl)
 opens_are channel xs (y ∷ ys) own = elim (cases_Bool (waits_for channel y)) [
   | inl t ↦
-    let so = opens_so channel y t in
-    let ids : List ℕ = map id_in (filter (waits_for channel) ys) in
-    let opens : map (at_id (id_in y) opened) (xs ++ y ∷ ys) ≡ (xs ++ opened y ∷ []) ++ ys = one_opens xs y ys own in
-    let own_after : HaveOwnIds ((xs ++ opened y ∷ []) ++ ys) = rw opens at (own_map (at_id (id_in y) opened) (keeps_id_at (id_in y) opened keeps_id_opened) (xs ++ y ∷ ys) own) in
-    let found : find (holds (id_in y)) (xs ++ y ∷ ys) ≡ Some y = one_found xs y ys (id_in y) (holds_own y) (own_parts xs y ys own).0 in
-    let rest = opens_are channel (xs ++ opened y ∷ []) ys own_after in
-    let call : option_and_then opened_call (find (holds (id_in y)) (xs ++ y ∷ ys)) ≡ call_one channel y = ap (option_and_then opened_call) found ∙ sym so.1 in
-    let calls : calls_after ids (map (at_id (id_in y) opened) (xs ++ y ∷ ys)) ≡ filter_map (call_one channel) ys = ap (calls_after ids) opens ∙ rest.1 in
-    (rw (t, so.0) (ap (opened_after ids) opens ∙ rest.0 ∙ append_assoc xs (opened y ∷ []) (map (open_one channel) ys)),
-    rw t (ap (λ (o : Option Call). cons_option o (calls_after ids (map (at_id (id_in y) opened) (xs ++ y ∷ ys)))) call ∙ ap (cons_option (call_one channel y)) calls))
+      let so = opens_so channel y t in
+      let ids : List ℕ = map id_in (filter (waits_for channel) ys) in
+      let opens : map (at_id (id_in y) opened) (xs ++ y ∷ ys) ≡ (xs ++ opened y ∷ []) ++ ys = one_opens xs y ys own in
+      let own_after : HaveOwnIds ((xs ++ opened y ∷ []) ++ ys) = rw opens at (own_map (at_id (id_in y) opened) (keeps_id_at (id_in y) opened keeps_id_opened) (xs ++ y ∷ ys) own) in
+      let found : find (holds (id_in y)) (xs ++ y ∷ ys) ≡ Some y = one_found xs y ys (id_in y) (holds_own y) (own_parts xs y ys own).0 in
+      let rest = opens_are channel (xs ++ opened y ∷ []) ys own_after in
+      let call : option_and_then opened_call (find (holds (id_in y)) (xs ++ y ∷ ys)) ≡ call_one channel y = ap (option_and_then opened_call) found ∙ sym so.1 in
+      let calls : calls_after ids (map (at_id (id_in y) opened) (xs ++ y ∷ ys)) ≡ filter_map (call_one channel) ys = ap (calls_after ids) opens ∙ rest.1 in (
+        rw (t, so.0) (ap (opened_after ids) opens ∙ rest.0 ∙ append_assoc xs (opened y ∷ []) (map (open_one channel) ys)),
+        rw t (ap (λ (o : Option Call). cons_option o (calls_after ids (map (at_id (id_in y) opened) (xs ++ y ∷ ys)))) call ∙ ap (cons_option (call_one channel y)) calls),
+      )
   | inr f ↦
-    let so = stays_so channel y f in
-    let same : (xs ++ y ∷ []) ++ ys ≡ xs ++ y ∷ ys = append_assoc xs (y ∷ []) ys in
-    let rest = opens_are channel (xs ++ y ∷ []) ys (subst HaveOwnIds (sym same) own) in
-    (rw (f, so.0) (ap (opened_after (map id_in (filter (waits_for channel) ys))) (sym same) ∙ rest.0 ∙ append_assoc xs (y ∷ []) (map (open_one channel) ys)),
-    rw (f, so.1) (ap (calls_after (map id_in (filter (waits_for channel) ys))) (sym same) ∙ rest.1))
+      let so = stays_so channel y f in
+      let same : (xs ++ y ∷ []) ++ ys ≡ xs ++ y ∷ ys = append_assoc xs (y ∷ []) ys in
+      let rest = opens_are channel (xs ++ y ∷ []) ys (subst HaveOwnIds (sym same) own) in (
+        rw (f, so.0) (ap (opened_after (map id_in (filter (waits_for channel) ys))) (sym same) ∙ rest.0 ∙ append_assoc xs (y ∷ []) (map (open_one channel) ys)),
+        rw (f, so.1) (ap (calls_after (map id_in (filter (waits_for channel) ys))) (sym same) ∙ rest.1),
+      )
 ]
 
 -- ---- what is asked of those that were not handed out alone

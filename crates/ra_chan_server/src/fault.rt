@@ -24,7 +24,9 @@ impl fmt::Display for ServerFault {
     fn fmt<W: fmt::Write>(&self, f: &mut fmt::Formatter<W>) -> fmt::Result {
         match self {
             ServerFault::ActiveId { .. } => f.write_str("the id is active"),
-            ServerFault::NoSuchCall { .. } => f.write_str("no call that was handed out has this id"),
+            ServerFault::NoSuchCall { .. } => f.write_str(
+                "no call that was handed out has this id",
+            ),
             ServerFault::NoMemory => f.write_str("want of memory"),
         }
     }

@@ -34,11 +34,7 @@ fn fired(alloc: Global, request: &Request, fire: &Fire) -> Result<Option<Packet>
 }
 
 /// The packets for the listeners of the event among them, in order.
-fn fires_among(
-    alloc: Global,
-    requests: &[&Request],
-    fire: &Fire,
-) -> Result<Vec<Packet>, NoMemory>
+fn fires_among(alloc: Global, requests: &[&Request], fire: &Fire) -> Result<Vec<Packet>, NoMemory>
     requires body { Fits levels (tree fire.now.body) }
     requires requests { AllByRecursion ActiveFits (map (λ r. active_of r.now) requests.now) }
     ensures packets { IfOk result (λ packets. map message packets.items ≡ filter_map (fire_one fire.now.channel fire.now.event (tree fire.now.body)) (map (λ r. active_of r.now) requests.now)) }

@@ -14,6 +14,8 @@ mod request;
 mod requests;
 mod server;
 mod table;
+#[cfg(test)]
+mod tests;
 mod unknown;
 mod waiting;
 

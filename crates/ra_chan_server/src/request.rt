@@ -13,9 +13,14 @@ use std::mem;
 #[derive(Debug, Drop)]
 pub enum Request {
     /// A call that waits for its channel until that moment.
-    WaitingCall { call: Call, until: u64 },
+    WaitingCall {
+        call: Call,
+        until: u64,
+    },
     /// A call that was handed out.
-    HandedCall { id: i32 },
+    HandedCall {
+        id: i32,
+    },
     /// A listen that waits for its channel until that moment.
     WaitingListen {
         id: i32,
@@ -54,9 +59,8 @@ pub fn is_here(request: &Request) -> bool
 {
     match request {
         Request::HandedCall { .. } => false,
-        Request::WaitingCall { .. }
-        | Request::WaitingListen { .. }
-        | Request::Listener { .. } => true,
+        Request::WaitingCall { .. } | Request::WaitingListen { .. } | Request::Listener { .. } =>
+            true,
     }
 }
 
@@ -76,7 +80,10 @@ pub fn waits_for(request: &Request, channel: &Text) -> bool
 {
     match request {
         Request::WaitingCall { call, .. } => channel.as_str() == call.channel.as_str(),
-        Request::WaitingListen { channel: wanted, .. } => channel.as_str() == wanted.as_str(),
+        Request::WaitingListen {
+            channel: wanted,
+            ..
+        } => channel.as_str() == wanted.as_str(),
         Request::HandedCall { .. } | Request::Listener { .. } => false,
     }
 }

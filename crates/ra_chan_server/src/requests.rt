@@ -8,9 +8,8 @@ ghost use Rattle.ra_chan_server.specs.Requests.{id_in, is_here, opened, opened_c
 ghost use Rattle.ra_chan_server.specs.View.{active_of, call_of};
 
 use crate::call::Call;
-use crate::index;
 use crate::request::{self, Request};
-use crate::table;
+use crate::{index, table};
 use ra_values::NoMemory;
 use std::alloc::Global;
 use std::collections::{BTreeMap, BTreeSet};

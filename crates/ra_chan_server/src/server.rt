@@ -1,14 +1,14 @@
 //! The channel server: what it holds, its copy, and its calls.
-ghost use Rattle.std.specs.Prelude.{◌≡◌, ◌<◌, ◌^◌, [], true, false, None, map, option_map, IfOk, IfErr, IfSome, OnOk, OnErr};
+ghost use Rattle.std.specs.Prelude.{◌≡◌, ◌<◌, ◌^◌, [], true, false, Some, None, if◌then◌else◌, map, option_map, IfOk, IfErr, IfSome, OnOk, OnErr};
 ghost use Rattle.std.specs.List.{AllByRecursion, list_any};
 ghost use Rattle.std.specs.Str.{bytes_eq};
 ghost use Rattle.ra_values.specs.View.{tree};
 ghost use Rattle.ra_values.specs.Spelling.{Fits, levels};
-ghost use Rattle.ra_ipc.specs.Messages.{is_request, promise, event_listen, response};
+ghost use Rattle.ra_ipc.specs.Messages.{is_request, response};
 ghost use Rattle.ra_ipc.specs.Packets.{MessageFits, reply_body};
 ghost use Rattle.ra_ipc.specs.View.{message, id_of, reply};
 ghost use Rattle.ra_ipc.specs.ChannelPackets.{active_id, after_request, requested_call};
-ghost use Rattle.ra_ipc.specs.ChannelServers.{registered, registered_calls, has_call, completed, fires, ticked, timeout_answers};
+ghost use Rattle.ra_ipc.specs.ChannelServers.{is_active, promised, promised_call, listened, registered, registered_calls, has_call, completed, fires, ticked, timeout_answers};
 ghost use Rattle.ra_chan_server.specs.Requests.{CallFits};
 ghost use Rattle.ra_chan_server.specs.View.{call_of, IsActiveId};
 
@@ -112,11 +112,11 @@ impl ChannelServer {
         requires fits { CallFits (call_of call) }
         requires plain { call.cancelled ≡ false }
         requires now { now < 2 ^ 53 }
-        ensures call { IfOk result (λ out. option_map call_of out ≡ requested_call self.old (promise (id_of call.id) call.channel call.name (tree call.arg))) }
+        ensures call { IfOk result (λ out. option_map call_of out ≡ promised_call self.old (id_of call.id) call.channel call.name (tree call.arg)) }
         ensures fits { IfOk result (λ out. IfSome out (λ c. CallFits (call_of c))) }
-        ensures after { OnOk result (self.new ≡ after_request self.old (promise (id_of call.id) call.channel call.name (tree call.arg)) now) }
-        ensures free { OnOk result (active_id self.old (promise (id_of call.id) call.channel call.name (tree call.arg)) ≡ None) }
-        ensures refused { IfErr result (λ e. IsActiveId e (active_id self.old (promise (id_of call.id) call.channel call.name (tree call.arg)))) }
+        ensures after { OnOk result (self.new ≡ promised self.old (id_of call.id) call.channel call.name (tree call.arg) now) }
+        ensures free { OnOk result (is_active (id_of call.id) self.old ≡ false) }
+        ensures refused { IfErr result (λ e. IsActiveId e (if is_active (id_of call.id) self.old then Some (id_of call.id) else None)) }
         ensures same { OnErr result (self.new ≡ self.old) }
     {
         let id = call.id;
@@ -132,5 +132,143 @@ impl ChannelServer {
         self.requests
             .push(id.cast_unsigned(), Request::WaitingCall { call, until })?;
         Ok(None)
+    }
+
+    /// A listen came: it begins to hear, or waits for its channel. No call is handed out.
+    fn listen(
+        &mut self,
+        id: i32,
+        channel: Text,
+        event: Text,
+        now: u64,
+    ) -> Result<Option<Call>, ServerFault>
+        requires id { id_of id < 2 ^ 31 }
+        requires now { now < 2 ^ 53 }
+        ensures call { IfOk result (λ out. out ≡ None) }
+        ensures after { OnOk result (self.new ≡ listened self.old (id_of id) channel event now) }
+        ensures free { OnOk result (is_active (id_of id) self.old ≡ false) }
+        ensures refused { IfErr result (λ e. IsActiveId e (if is_active (id_of id) self.old then Some (id_of id) else None)) }
+        ensures same { OnErr result (self.new ≡ self.old) }
+    {
+        if self.requests.has(id.cast_unsigned()) {
+            return Err(ServerFault::ActiveId { id });
+        }
+        let request = if is_among(self.channels.as_slice(), &channel) {
+            Request::Listener { id, channel, event }
+        } else {
+            Request::WaitingListen {
+                id,
+                channel,
+                event,
+                until: now + WAIT,
+            }
+        };
+        self.requests.push(id.cast_unsigned(), request)?;
+        Ok(None)
+    }
+
+    /// Takes a packet of the client, which needs an id of 0 or more and texts and values that fit. A Promise whose channel is
+    /// registered is handed out as a call; where its channel is not, it waits until 1,000 milliseconds from now, as an EventListen
+    /// does. A PromiseCancel marks a call that waits, an EventDispose ends a listen, and for another id each does nothing. It is
+    /// refused with `ActiveId` exactly where the id of a Promise or an EventListen is active, else for want of memory alone; a
+    /// refusal drops the packet.
+    pub fn on_packet(&mut self, packet: Packet, now: u64) -> Result<Option<Call>, ServerFault>
+        requires request { is_request (message packet) ≡ true }
+        requires fits { MessageFits (message packet) }
+        requires now { now < 2 ^ 53 }
+        ensures call { IfOk result (λ call. option_map call_of call ≡ requested_call self.old (message packet)) }
+        ensures fits { IfOk result (λ call. IfSome call (λ c. CallFits (call_of c))) }
+        ensures after { OnOk result (self.new ≡ after_request self.old (message packet) now) }
+        ensures free { OnOk result (active_id self.old (message packet) ≡ None) }
+        ensures refused { IfErr result (λ e. IsActiveId e (active_id self.old (message packet))) }
+        ensures same { OnErr result (self.new ≡ self.old) }
+    {
+        match packet {
+            Packet::Promise {
+                id,
+                channel,
+                name,
+                arg,
+            } => self.promise(
+                Call {
+                    id,
+                    channel,
+                    name,
+                    arg,
+                    cancelled: false,
+                },
+                now,
+            ),
+            Packet::PromiseCancel { id } => {
+                self.requests.cancel(id.cast_unsigned());
+                Ok(None)
+            }
+            Packet::EventListen {
+                id,
+                channel,
+                name,
+                ..
+            } => { self.listen(id, channel, name, now) }
+            Packet::EventDispose { id } => {
+                self.requests.dispose(id.cast_unsigned());
+                Ok(None)
+            }
+            Packet::Initialize
+            | Packet::PromiseSuccess { .. }
+            | Packet::PromiseError { .. }
+            | Packet::PromiseErrorObj { .. }
+            | Packet::EventFire { .. } => Ok(None),
+        }
+    }
+
+    /// The packet that answers the call, whose id is active no more. It needs an answer that fits, takes no memory, and is refused
+    /// exactly where no call of this id was handed out and not yet completed.
+    pub fn complete(&mut self, id: i32, answer: Answer) -> Result<Packet, ServerFault>
+        requires { Fits levels (reply_body (reply answer)) }
+        ensures packet { IfOk result (λ p. message p ≡ response (id_of id) (reply answer)) }
+        ensures fits { IfOk result (λ p. MessageFits (message p)) }
+        ensures after { OnOk result (self.new ≡ completed self.old (id_of id)) }
+        ensures open { OnOk result (has_call (id_of id) self.old ≡ true) }
+        ensures refused { IfErr result (λ e. (e ≡ ServerFault.NoSuchCall id) × (has_call (id_of id) self.old ≡ false)) }
+        ensures same { OnErr result (self.new ≡ self.old) }
+    {
+        if !self.requests.complete(id.cast_unsigned()) {
+            return Err(ServerFault::NoSuchCall { id });
+        }
+        Ok(answered(id, answer))
+    }
+
+    /// An EventFire for each listener of this event, in the order of their listens. It needs a body that fits, and is refused for
+    /// want of memory alone.
+    pub fn fire(&self, alloc: Global, fire: &Fire) -> Result<Vec<Packet>, NoMemory>
+        requires { Fits levels (tree fire.now.body) }
+        ensures packets { IfOk result (λ packets. map message packets.items ≡ fires self.now fire.now.channel fire.now.event (tree fire.now.body)) }
+        ensures fits { IfOk result (λ packets. AllByRecursion MessageFits (map message packets.items)) }
+    {
+        self.requests.fires(alloc, fire)
+    }
+
+    /// Answers the calls that waited for their channel until this moment or an earlier one, in the order in which they came, by the
+    /// error of an unknown channel. Listens that waited so long are forgotten. It is refused for want of memory alone.
+    pub fn tick(&mut self, alloc: Global, now: u64) -> Result<Vec<Packet>, NoMemory>
+        ensures packets { IfOk result (λ packets. map message packets.items ≡ timeout_answers self.old now) }
+        ensures fits { IfOk result (λ packets. AllByRecursion MessageFits (map message packets.items)) }
+        ensures after { OnOk result (self.new ≡ ticked self.old now) }
+        ensures same { OnErr result (self.new ≡ self.old) }
+    {
+        let ids = self.requests.ids_late(alloc, now)?;
+        let packets = self.requests.answers(alloc, now)?;
+        self.requests.take_all(ids.as_slice());
+        Ok(packets)
+    }
+
+    /// An equal server.
+    pub fn copy(&self, alloc: Global) -> Result<ChannelServer, NoMemory>
+        ensures { IfOk result (λ s. s ≡ self.now) }
+    {
+        Ok(ChannelServer {
+            channels: copied(alloc, self.channels.as_slice())?,
+            requests: self.requests.copy(alloc)?,
+        })
     }
 }

@@ -7,20 +7,15 @@ ghost use Rattle.ra_ipc.specs.ChannelServers.{is_timed_out, timeout_one};
 ghost use Rattle.ra_chan_server.specs.Requests.{id_in, waits_for, HaveOwnIds, ActiveFits};
 ghost use Rattle.ra_chan_server.specs.View.{active_of};
 
-use crate::packets;
 use crate::request::{self, Request};
 use crate::requests::Requests;
-use crate::unknown;
+use crate::{packets, unknown};
 use ra_ipc::Packet;
 use ra_values::{NoMemory, Text};
 use std::alloc::Global;
 
 /// The ids of those among them that wait for this channel, in order.
-fn waiting_among(
-    alloc: Global,
-    requests: &[&Request],
-    channel: &Text,
-) -> Result<Vec<u32>, NoMemory>
+fn waiting_among(alloc: Global, requests: &[&Request], channel: &Text) -> Result<Vec<u32>, NoMemory>
     ensures { IfOk result (λ ids. ids.items ≡ map id_in (filter (waits_for channel.now) (map (λ r. active_of r.now) requests.now))) }
 {
     let mut ids = Vec::new(alloc);
@@ -61,11 +56,7 @@ fn answer(alloc: Global, request: &Request, now: u64) -> Result<Option<Packet>, 
 }
 
 /// The answers to the calls among them that waited too long, in order.
-fn answers_among(
-    alloc: Global,
-    requests: &[&Request],
-    now: u64,
-) -> Result<Vec<Packet>, NoMemory>
+fn answers_among(alloc: Global, requests: &[&Request], now: u64) -> Result<Vec<Packet>, NoMemory>
     requires { AllByRecursion ActiveFits (map (λ r. active_of r.now) requests.now) }
     ensures packets { IfOk result (λ packets. map message packets.items ≡ filter_map (timeout_one now) (map (λ r. active_of r.now) requests.now)) }
     ensures fits { IfOk result (λ packets. AllByRecursion MessageFits (map message packets.items)) }

@@ -15,4 +15,4 @@ pub returns-clause-packets : goal.returns-clause-packets
 returns-clause-packets c =
     IfOk-weaker c.answers_among.result _ _
     (λ packets h. h ∙ ap (λ rs. filter_map (timeout_one c.args.now) (map (λ r. active_of r.now) rs)) c.as_slice.ensures.value ∙ ap (filter_map (timeout_one c.args.now)) c.in_ok-found.ensures.found
-      ∙ here_map_is (timeout_one c.args.now) (timeout_here c.args.now) c.args.self.now) c.answers_among.ensures.packets
+    ∙ here_map_is (timeout_one c.args.now) (timeout_here c.args.now) c.args.self.now) c.answers_among.ensures.packets

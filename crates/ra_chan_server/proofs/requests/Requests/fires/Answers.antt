@@ -16,5 +16,5 @@ pub returns-clause-packets : goal.returns-clause-packets
 returns-clause-packets c =
     IfOk-weaker c.fires_among.result _ _
     (λ packets h. h ∙ ap (λ rs. filter_map (fire_one c.args.fire.now.channel c.args.fire.now.event (tree c.args.fire.now.body)) (map (λ r. active_of r.now) rs)) c.as_slice.ensures.value
-      ∙ ap (filter_map (fire_one c.args.fire.now.channel c.args.fire.now.event (tree c.args.fire.now.body))) c.in_ok-found.ensures.found
-      ∙ here_map_is (fire_one c.args.fire.now.channel c.args.fire.now.event (tree c.args.fire.now.body)) (fire_here c.args.fire.now.channel c.args.fire.now.event (tree c.args.fire.now.body)) c.args.self.now) c.fires_among.ensures.packets
+    ∙ ap (filter_map (fire_one c.args.fire.now.channel c.args.fire.now.event (tree c.args.fire.now.body))) c.in_ok-found.ensures.found
+    ∙ here_map_is (fire_one c.args.fire.now.channel c.args.fire.now.event (tree c.args.fire.now.body)) (fire_here c.args.fire.now.channel c.args.fire.now.event (tree c.args.fire.now.body)) c.args.self.now) c.fires_among.ensures.packets

@@ -11,4 +11,4 @@ pub returns-clause-ids : goal.returns-clause-ids
 returns-clause-ids c =
     IfOk-weaker c.late_among.result _ _
     (λ ids h. h ∙ ap (λ rs. map id_in (filter (is_timed_out c.args.now) (map (λ r. active_of r.now) rs))) c.as_slice.ensures.value ∙ ap (λ xs. map id_in (filter (is_timed_out c.args.now) xs)) c.in_ok-found.ensures.found
-      ∙ ap (map id_in) (here_filter_is (is_timed_out c.args.now) (late_here c.args.now) c.args.self.now)) c.late_among.ensures
+    ∙ ap (map id_in) (here_filter_is (is_timed_out c.args.now) (late_here c.args.now) c.args.self.now)) c.late_among.ensures
