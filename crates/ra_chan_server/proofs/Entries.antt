@@ -1,9 +1,9 @@
 -- Requests by their arrivals: one more behind all others, one taken out, one changed.
-use Rattle.std.proofs.Common.{◌≡◌, ℕ, ◌+◌, ◌<◌, List, [], ◌∷◌, ◌++◌, map, Bool, true, false, not, Option, Some, None, refl, sym, ap, subst, ◌∙◌, arith, inl, inr, option_map, append_assoc, append-nil}
-use Rattle.std.proofs.lemmas.Bool.{cases_Bool, cond_both, eqb-true, eqb-false, ne_eqb, eq-eqb, true≢false}
+use Rattle.std.proofs.Common.{◌≡◌, ℕ, ◌+◌, ◌<◌, List, [], ◌∷◌, ◌++◌, map, true, false, not, Option, Some, None, refl, sym, ap, ◌∙◌, arith, inl, inr, option_map, append_assoc, append-nil}
+use Rattle.std.proofs.lemmas.Bool.{cases_Bool, cond_both, eqb-true, eqb-false, ne_eqb, eq-eqb}
 use Rattle.std.proofs.lemmas.Map.{keys-set_value}
 use Rattle.std.specs.Prelude.{◌==◌, if◌then◌else◌}
-use Rattle.std.specs.List.{AllByRecursion, filter, filter_map, cons_option, find}
+use Rattle.std.specs.List.{AllByRecursion, filter, filter_map, find}
 use Rattle.std.specs.Map.{keys_of, lookup, set_value, remove_entry}
 use Rattle.std.specs.BTreeMap.{is_at}
 use Rattle.std.specs.Ordering.{nat_cmp}
@@ -13,7 +13,7 @@ use Rattle.ra_chan_server.specs.Requests.{id_in, is_here, opened, opened_call, m
 use Rattle.ra_chan_server.specs.View.{active_of}
 use Rattle.ra_chan_server.specs.Held.{Ascending, AreArrivals, AreHeld, without, actives, arrival_of, request_of, here, SetAt}
 use Rattle.ra_chan_server.proofs.Arrivals.{at_is, arrivals_push, arrivals_filter, all_push, all_filter, keys_push, keys_without, entry_goes, all_stay}
-use Rattle.ra_chan_server.proofs.Lists.{filter-map, filter_alike, all_both, holds_is, has_id, other_id, own_filter, own_push, own_map, none_changes, keeps_id_at, fits_at, keeps_id_opened, keeps_id_marked, keeps_here_marked, keeps_fit_opened, keeps_fit_marked, handed_out, not_handed_out}
+use Rattle.ra_chan_server.proofs.Lists.{filter-map, filter_alike, holds_is, has_id, other_id, own_filter, own_push, own_map, none_changes, keeps_id_at, fits_at, keeps_id_opened, keeps_id_marked, keeps_here_marked, keeps_fit_opened, keeps_fit_marked, handed_out, not_handed_out}
 
 -- ---- one more
 

@@ -3,7 +3,7 @@ use Rattle.std.proofs.Common.{◌≡◌, ℕ, zero, suc, ◌+◌, ◌<◌, ◌^�
 use Rattle.std.proofs.lemmas.Bool.{cases_Bool, cond_both, eqb-true, eqb-false, ne_eqb, eq-eqb, or_parts, true≢false}
 use Rattle.std.proofs.lemmas.List.{take_more, map-append}
 use Rattle.std.proofs.lemmas.List.Elements.{filter_map-append}
-use Rattle.std.specs.Prelude.{◌==◌, ◌||◌, if◌then◌else◌}
+use Rattle.std.specs.Prelude.{◌==◌, ◌||◌}
 use Rattle.std.specs.List.{AllByRecursion, list_any, filter, filter_map, cons_option, find}
 use Rattle.ra_ipc.specs.ChannelServers.{Call, Active, waiting_call, handed_call, waiting_listen, listener, holds, is_handed, is_listener, cancel_one}
 use Rattle.ra_chan_server.specs.Requests.{id_in, is_here, is_listen, opened, opened_call, marked, at_id, HaveOwnIds, ActiveFits}

@@ -1,4 +1,4 @@
-use Rattle.std.proofs.Common.{◌≡◌, map}
+use Rattle.std.proofs.Common.{map}
 use Rattle.ra_ipc.specs.View.{message}
 use Rattle.ra_ipc.specs.ChannelServers.{fire_one}
 use Rattle.ra_values.specs.View.{tree}

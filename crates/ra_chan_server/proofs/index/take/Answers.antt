@@ -1,4 +1,4 @@
-use Rattle.std.proofs.Common.{◌≡◌, ◌∙◌}
+use Rattle.std.proofs.Common.{◌∙◌}
 use Rattle.ra_chan_server.proofs.Arrivals.{key_goes}
 use Rattle.ra_chan_server.proofs.index.take.Goals as goal
 

@@ -1,4 +1,3 @@
-use Rattle.std.proofs.Common.{◌≡◌, ◌∙◌}
 use Rattle.ra_chan_server.proofs.Entries.{held_add}
 use Rattle.ra_chan_server.proofs.table.add.Goals as goal
 

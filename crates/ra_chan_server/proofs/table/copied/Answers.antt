@@ -1,4 +1,4 @@
-use Rattle.std.proofs.Common.{◌≡◌, ◌++◌, sym, ap, ◌∙◌}
+use Rattle.std.proofs.Common.{◌++◌, sym, ap, ◌∙◌}
 use Rattle.ra_chan_server.proofs.Arrivals.{arrivals_before}
 use Rattle.ra_chan_server.proofs.table.copied.Goals as goal
 

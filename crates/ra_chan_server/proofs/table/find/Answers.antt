@@ -1,5 +1,5 @@
-use Rattle.std.proofs.Common.{◌≡◌, Some, None, option_map, refl, sym, ap, ◌∙◌}
-use Rattle.ra_chan_server.specs.Held.{arrival_of, request_of}
+use Rattle.std.proofs.Common.{◌≡◌, Some, None, refl, sym, ◌∙◌}
+use Rattle.ra_chan_server.specs.Held.{arrival_of}
 use Rattle.ra_chan_server.proofs.Entries.{looked, none_found, never_lost}
 use Rattle.ra_chan_server.proofs.table.find.Goals as goal
 

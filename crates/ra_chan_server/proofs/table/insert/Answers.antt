@@ -1,4 +1,4 @@
-use Rattle.std.proofs.Common.{◌≡◌, ◌∙◌}
+use Rattle.std.proofs.Common.{◌∙◌}
 use Rattle.ra_chan_server.proofs.Arrivals.{entry_push}
 use Rattle.ra_chan_server.proofs.table.insert.Goals as goal
 

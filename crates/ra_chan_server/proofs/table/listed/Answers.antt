@@ -1,4 +1,4 @@
-use Rattle.std.proofs.Common.{◌≡◌, ◌++◌, ◌∷◌, [], map, sym, ◌∙◌}
+use Rattle.std.proofs.Common.{map, sym}
 use Rattle.std.proofs.lemmas.List.{map-append}
 use Rattle.ra_chan_server.specs.View.{active_of}
 use Rattle.ra_chan_server.proofs.Entries.{all_shown, next_shown, none_shown, none_left}

@@ -1,4 +1,4 @@
-use Rattle.std.proofs.Common.{◌≡◌, sym, ◌∙◌}
+use Rattle.std.proofs.Common.{◌∙◌}
 use Rattle.ra_chan_server.specs.Held.{AreArrivals}
 use Rattle.ra_chan_server.proofs.Arrivals.{goes_again}
 use Rattle.ra_chan_server.proofs.Entries.{here_arrivals, here_push}

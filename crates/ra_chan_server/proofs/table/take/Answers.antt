@@ -1,4 +1,3 @@
-use Rattle.std.proofs.Common.{◌≡◌, ◌∙◌}
 use Rattle.ra_chan_server.proofs.Entries.{held_take, here_ascending}
 use Rattle.ra_chan_server.proofs.table.take.Goals as goal
 

@@ -1,4 +1,4 @@
-use Rattle.std.proofs.Common.{◌≡◌, ◌<◌, ◌^◌, w32, to_z, of_z, ◌∙◌, arith}
+use Rattle.std.proofs.Common.{◌<◌, ◌^◌, w32, to_z, of_z, arith}
 use Rattle.std.proofs.lemmas.Int.{to_z-of_z}
 use Rattle.ra_ipc.specs.View.{id_of}
 use Rattle.ra_chan_server.proofs.Texts.{tree_object, error_length}

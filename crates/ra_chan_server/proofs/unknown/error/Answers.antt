@@ -1,4 +1,4 @@
-use Rattle.std.proofs.Common.{◌≡◌, ◌∙◌}
+use Rattle.std.proofs.Common.{◌∙◌}
 use Rattle.ra_ipc.specs.ChannelServers.{shown_name}
 use Rattle.ra_chan_server.proofs.Texts.{error_of_told}
 use Rattle.ra_chan_server.proofs.unknown.error.Goals as goal

@@ -1,5 +1,4 @@
-use Rattle.std.proofs.Common.{◌≡◌, ◌++◌, ◌∷◌, refl, ap, ◌∙◌}
-use Rattle.json.specs.Print.{print}
+use Rattle.std.proofs.Common.{◌≡◌, refl}
 use Rattle.ra_chan_server.proofs.Texts.{error_tokens, error_printed}
 use Rattle.ra_chan_server.proofs.unknown.error_text.Goals as goal
 

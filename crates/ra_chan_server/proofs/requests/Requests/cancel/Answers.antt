@@ -1,4 +1,4 @@
-use Rattle.std.proofs.Common.{◌≡◌, sym, ◌∙◌}
+use Rattle.std.proofs.Common.{sym, ◌∙◌}
 use Rattle.ra_chan_server.specs.Requests.{marked}
 use Rattle.ra_chan_server.specs.Held.{actives}
 use Rattle.ra_chan_server.proofs.Lists.{marks_cancel, none_changes}

@@ -1,4 +1,3 @@
-use Rattle.std.proofs.Common.{◌≡◌, ◌∙◌}
 use Rattle.ra_chan_server.proofs.Entries.{active_found, active_not_found}
 use Rattle.ra_chan_server.proofs.requests.Requests.find.Goals as goal
 

@@ -1,4 +1,4 @@
-use Rattle.std.proofs.Common.{◌≡◌, sym, ap, ◌∙◌, is_some}
+use Rattle.std.proofs.Common.{sym, ap, ◌∙◌, is_some}
 use Rattle.ra_chan_server.specs.View.{active_of}
 use Rattle.ra_chan_server.proofs.Lists.{any_holds, some_map}
 use Rattle.ra_chan_server.proofs.requests.Requests.has.Goals as goal

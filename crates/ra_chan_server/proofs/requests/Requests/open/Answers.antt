@@ -1,11 +1,8 @@
-use Rattle.std.proofs.Common.{◌≡◌, Some, None, refl, sym, ap, ◌∙◌}
-use Rattle.std.specs.Map.{lookup}
-use Rattle.std.specs.BTreeMap.{is_at}
-use Rattle.std.specs.Ordering.{nat_cmp}
+use Rattle.std.proofs.Common.{sym, ap, ◌∙◌}
 use Rattle.std.specs.Option.{option_and_then}
 use Rattle.ra_chan_server.specs.Requests.{opened, opened_call}
 use Rattle.ra_chan_server.specs.Held.{actives}
-use Rattle.ra_chan_server.specs.View.{call_of, active_of}
+use Rattle.ra_chan_server.specs.View.{call_of}
 use Rattle.ra_chan_server.proofs.Lists.{none_changes}
 use Rattle.ra_chan_server.proofs.Entries.{held_open_call, held_open_other, at_arrival, active_found, active_not_found, lacks, here_ascending}
 use Rattle.ra_chan_server.proofs.requests.Requests.open.Goals as goal

@@ -1,4 +1,4 @@
-use Rattle.std.proofs.Common.{◌≡◌, not, sym, ◌∙◌}
+use Rattle.std.proofs.Common.{◌≡◌, not, sym}
 use Rattle.std.specs.List.{filter}
 use Rattle.ra_ipc.specs.ChannelServers.{holds}
 use Rattle.ra_chan_server.specs.Held.{actives}

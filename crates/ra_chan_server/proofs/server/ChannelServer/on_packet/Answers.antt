@@ -1,7 +1,5 @@
-use Rattle.std.proofs.Common.{◌≡◌, ℕ, ◌<◌, ◌^◌, false, w32, to_z, of_z, refl, sym, ap, ◌∙◌, arith}
-use Rattle.ra_ipc.specs.View.{message, id_of}
-use Rattle.ra_ipc.specs.ChannelServers.{is_active}
-use Rattle.ra_ipc.specs.Packets.{MessageFits}
+use Rattle.std.proofs.Common.{◌≡◌, w32, to_z, of_z}
+use Rattle.ra_ipc.specs.View.{id_of}
 use Rattle.ra_chan_server.proofs.Ids.{same_id}
 use Rattle.ra_chan_server.proofs.server.ChannelServer.on_packet.Goals as goal
 

@@ -1,7 +1,7 @@
-use Rattle.std.proofs.Common.{◌≡◌, ◌∷◌, [], ◌++◌, List, map, false, refl, sym, ap, ◌∙◌}
+use Rattle.std.proofs.Common.{◌≡◌, ◌++◌, map, false, refl, sym, ap, ◌∙◌}
 use Rattle.std.specs.List.{list_any, filter_map}
 use Rattle.std.specs.Str.{bytes_eq}
-use Rattle.ra_ipc.specs.ChannelServers.{Call, call_one}
+use Rattle.ra_ipc.specs.ChannelServers.{call_one}
 use Rattle.ra_chan_server.specs.View.{call_of}
 use Rattle.ra_chan_server.proofs.Several.{calls_fit}
 use Rattle.ra_chan_server.proofs.server.ChannelServer.register.Goals as goal
