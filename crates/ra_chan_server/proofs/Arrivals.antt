@@ -42,9 +42,6 @@ arrivals_push n ks h = record {
   below = all_push (λ y. y < n + 1) ks n (all_more (λ y. y < n) (λ y. y < n + 1) ks (λ y lt. omega arith) h.below) (omega arith);
 }
 
-pub arrivals_more : (n : ℕ) (ks : List ℕ) → AreArrivals n ks → AreArrivals (n + 1) ks
-arrivals_more n ks h = record { ascending = h.ascending; below = all_more (λ y. y < n) (λ y. y < n + 1) ks (λ y lt. omega arith) h.below }
-
 pub arrivals_filter : (n : ℕ) (p : ℕ → Bool) (ks : List ℕ) → AreArrivals n ks → AreArrivals n (filter p ks)
 arrivals_filter n p ks h = record { ascending = ascending_filter p ks h.ascending; below = all_filter (λ y. y < n) p ks h.below }
 
