@@ -1,0 +1,8 @@
+use Rattle.std.proofs.Common.{◌≡◌, map, take}
+use Rattle.std.specs.List.{filter}
+use Rattle.ra_chan_server.specs.Requests.{id_in, waits_for}
+use Rattle.ra_chan_server.specs.View.{active_of}
+use Rattle.ra_chan_server.proofs.waiting.waiting_among.Given as goal
+
+abbrev pub invariant-loop-request : goal.invariant-loop-request
+invariant-loop-request l = l.ids.items ≡ map id_in (filter (waits_for l.channel) (map (λ r. active_of r.now) (take l.request-index l.requests)))

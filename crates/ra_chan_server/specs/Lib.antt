@@ -1,0 +1,4 @@
+pub mod FaultTexts
+pub mod Requests
+pub mod Held
+pub mod View
