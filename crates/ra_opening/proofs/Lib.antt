@@ -1,0 +1,4 @@
+pub mod RunLemmas
+pub mod FindLemmas
+pub mod ShakeLemmas
+pub mod BeginLemmas

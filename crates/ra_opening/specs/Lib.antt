@@ -1,0 +1,4 @@
+pub mod Openings
+pub mod Stands
+pub mod Comes
+pub mod Begins
