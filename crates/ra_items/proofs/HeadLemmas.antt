@@ -1,7 +1,9 @@
 -- The heads of a text: an answer gives one, a front has the same, and their answers are equal.
-use Rattle.std.proofs.Common.{◌≡◌, ℕ, ◌<◌, ◌≤◌, inl, inr, List, ◌++◌, length, take, Option, Some, None, Result, Ok, Err, cond, nat_lt, arith, ap, subst, ◌∙◌, refl, length-append}
+use Rattle.std.proofs.Common.{◌≡◌, ℕ, ◌<◌, ◌≤◌, inl, inr, List, ◌++◌, ◌-◌, length, take, Option, Some, None, Result, Ok, Err, cond, nat_lt, arith, ap, subst, ◌∙◌, refl, length-append, sym, drop, ◌+◌}
 use Rattle.std.specs.Prelude.{⊤}
-use Rattle.std.proofs.lemmas.Bool.{cond-true, cond-false, lt-ltb, le-ltb}
+use Rattle.std.proofs.lemmas.Bool.{cases_lt, cond-true, cond-false, lt-ltb, le-ltb}
+use Rattle.std.proofs.Math.Seq.{take-add}
+use Rattle.std.proofs.lemmas.Grind.{common_steps}
 use Rattle.std.proofs.lemmas.List.{take_all, take-append-le}
 use Rattle.ra_upgrade.specs.declared.answer_head.AnswerFault.{AnswerFault}
 use Rattle.ra_upgrade.specs.declared.answer_head.AnswerFault.TheVariants as answer_faults
@@ -13,9 +15,10 @@ use Rattle.ra_upgrade.specs.Ends.{max_head}
 use Rattle.ra_upgrade.specs.Reading.{IsOpen, IsBad, IsRead}
 use Rattle.ra_upgrade.specs.RequestHeads.{HeadIs, IsHead, asks, located}
 use Rattle.ra_upgrade.proofs.HeadLemmas.{one_request, one_response}
-use Rattle.ra_upgrade.proofs.ReadingLemmas.{one_reading}
+use Rattle.ra_upgrade.proofs.ReadingLemmas.{one_reading, reading_more}
 use Rattle.ra_items.specs.Heads.{Head, sized, answered, length_alone, IsHeadBy, IsRequestOf, IsAnswerOf}
 use Rattle.ra_items.specs.Items.{items_by, items}
+use Rattle.ra_items.proofs.ItemLemmas.{answer_stays}
 use Rattle.ra_items.proofs.Fronts.{by_size, open_front, open_before, bad_front, read_front}
 
 -- the first bytes are all of them
@@ -128,3 +131,45 @@ one_answer_items key text head other is is_too =
     same_answer (Err f) (Ok None) e = absurd cc
     same_answer (Err f) (Ok (Some q)) e = absurd cc
     same_answer (Err f) (Err g) e = let same : f ≡ g = cc in ap (λ (x : AnswerFault). Err x) same
+
+-- ---- the text goes on
+
+take_past : (xs ys : List ℕ) (n : ℕ) → length xs ≤ n → take n (xs ++ ys) ≡ xs ++ take (n - length xs) ys
+take_past xs ys n past =
+    let both : n ≡ length xs + (n - length xs) = omega arith in
+    ap (λ (k : ℕ). take k (xs ++ ys)) both ∙ take-add (length xs) (n - length xs) (xs ++ ys)
+    ∙ ap (λ (l : List ℕ). take (length xs) (xs ++ ys) ++ take (n - length xs) l) (drop_front xs ys)
+    ∙ ap (λ (l : List ℕ). l ++ take (n - length xs) ys) (take_front xs ys)
+  where
+    drop_front : (xs ys : List ℕ) → drop (length xs) (xs ++ ys) ≡ ys
+    drop_front xs ys = grind (arith, common_steps)
+    take_front : (xs ys : List ℕ) → take (length xs) (xs ++ ys) ≡ xs
+    take_front xs ys = grind (arith, common_steps)
+
+-- an answer that is given is that to every longer front
+pub stays_by : {A E : Type 0} (Answer : List ℕ → Result (Option (A × ℕ)) E → Type 0) (text more : List ℕ) (head : Head A E)
+    → ((bytes later : List ℕ) (r : Result (Option (A × ℕ)) E) → Answer bytes r → (r ≡ Ok None → ⊥) → Answer (bytes ++ later) r)
+    → (answered head (length text) ≡ Ok None → ⊥) → IsHeadBy Answer text head → IsHeadBy Answer (text ++ more) head
+stays_by {A} {E} Answer text more head stands given is n within = elim (cases_lt (length text) n) [
+  | inl past ↦
+      let same : answered head n ≡ answered head (length text) = answer_stays head (length text) n given (omega arith) in
+      let front : take n (text ++ more) ≡ text ++ take (n - length text) more = take_past text more n (omega arith) in
+      subst (λ (t : List ℕ). Answer t (answered head n)) (sym front)
+      (subst (λ (r : Result (Option (A × ℕ)) E). Answer (text ++ take (n - length text) more) r) (sym same)
+      (stands text (take (n - length text) more) (answered head (length text)) (subst (λ (t : List ℕ). Answer t (answered head (length text))) (all_of text) (is (length text) (omega arith))) given))
+  | inr inside ↦ subst (λ (t : List ℕ). Answer t (answered head n)) (sym (take-append-le n text more inside)) (is n inside)
+]
+
+pub request_stays : (text more : List ℕ) (head : Head Upgrade HeadFault) → (answered head (length text) ≡ Ok None → ⊥) → IsRequestOf text head → IsRequestOf (text ++ more) head
+request_stays text more head given is =
+    stays_by HeadIs text more head (reading_more IsHead (λ n head. located n (asks head)) head_faults.TooLong head_faults.BadHead) given is
+
+length_given : (r : Result (Option (⊤ × ℕ)) AnswerFault) → length_alone r ≡ Ok None → r ≡ Ok None
+length_given (Ok None) e = refl
+length_given (Ok (Some x)) e = absurd cc
+length_given (Err f) e = absurd cc
+
+pub answer_stays_for : (key text more : List ℕ) (head : Head ⊤ AnswerFault) → (answered head (length text) ≡ Ok None → ⊥) → IsAnswerOf key text head → IsAnswerOf key (text ++ more) head
+answer_stays_for key text more head given is =
+    stays_by (λ bytes result. AnswerIs key bytes (length_alone result)) text more head
+    (λ bytes later r answer some. reading_more IsAnswer (λ n head. accepted n (says key head)) answer_faults.TooLong answer_faults.BadHead bytes later (length_alone r) answer (λ e. some (length_given r e))) given is

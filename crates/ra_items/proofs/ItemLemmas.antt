@@ -53,6 +53,14 @@ head_within {A} {E} head n k a is =
     let same : head.size ≡ k = sized_len head.size k head.says a (sym (answer_is head n there) ∙ is) in
     omega arith
 
+-- and it is given once so many bytes are there
+pub head_at : {A E : Type 0} (head : Head A E) (m n : ℕ) (a : A) → answered head m ≡ Ok (Some (a, n)) → answered head n ≡ Ok (Some (a, n))
+head_at {A} {E} head m n a is =
+    let there : head.size ≤ m = given head m (λ none. let apart : ◌≡◌ {A = Result (Option (A × ℕ)) E} (Ok None) (Ok (Some (a, n))) = sym none ∙ is in absurd cc) in
+    let says : sized head.size head.says ≡ Ok (Some (a, n)) = sym (answer_is head m there) ∙ is in
+    let same : head.size ≡ n = sized_len head.size n head.says a says in
+    answer_is head n (omega arith) ∙ says
+
 -- ---- the text goes on
 
 longer : (text more : List ℕ) → length text ≤ length (text ++ more)

@@ -1,5 +1,6 @@
 -- What a reader has read of a text: at the start, one piece more, its head, and one frame more.
-use Rattle.std.proofs.Common.{◌≡◌, ℕ, ◌+◌, ◌-◌, ◌≤◌, true, false, Some, Ok, List, [], ◌∷◌, ◌++◌, length, drop, refl, sym, ap, ◌∙◌, arith, append_assoc, append-nil, length-append}
+use Rattle.std.proofs.Common.{◌≡◌, ℕ, ◌+◌, ◌-◌, ◌≤◌, true, false, Option, Some, None, Result, Ok, Err, List, [], ◌∷◌, ◌++◌, length, take, drop, refl, sym, ap, ◌∙◌, arith, append_assoc, append-nil, length-append, length-take}
+use Rattle.std.proofs.lemmas.Grind.{common_steps}
 use Rattle.std.proofs.lemmas.List.{drop-append-le, length-drop, drop-drop}
 use Rattle.ra_model.specs.declared.frame.Frame.{Frame}
 use Rattle.ra_model.specs.Frames.{frame_bytes}
@@ -7,11 +8,11 @@ use Rattle.ra_model.specs.FirstFrame.{first_frame}
 use Rattle.ra_model.proofs.Framing.{first_frame_more}
 use Rattle.ra_model.proofs.CuttingLemmas.{found_parts}
 use Rattle.ra_items.specs.Heads.{Head, answered}
-use Rattle.ra_items.specs.Items.{Placed, frames_at, items, fresh_items}
+use Rattle.ra_items.specs.Items.{Item, Placed, frames_at, items_by, items, fresh_items}
 use Rattle.ra_items.specs.Items.Item.{HeadItem, FrameItem}
 use Rattle.ra_items.specs.Readers.{Reader, new_reader, fed, items_ahead, HasRead}
 use Rattle.ra_items.proofs.FrameItems.{frames_step}
-use Rattle.ra_items.proofs.ItemLemmas.{items_head, head_within, fresh_are}
+use Rattle.ra_items.proofs.ItemLemmas.{items_head, head_within, head_at, fresh_are}
 
 pub read_nothing : {A E : Type 0} (head : Head A E) → HasRead head [] [] 0 new_reader
 read_nothing head = record { later = λ more. refl; within = omega arith; left = refl; start = λ before. refl }
@@ -76,3 +77,50 @@ pub read_fresh : {A E : Type 0} (head : Head A E) (text piece : List ℕ) (done 
 read_fresh {A} {E} head text piece done at reader has none =
     let all : items head text ≡ done = read_items head text done at reader has ∙ ap (λ (ps : List (Placed A E)). done ++ ps) none ∙ append-nil done in
     fresh_are head text piece done (items_ahead head at (fed piece reader)) all (has.later piece)
+
+-- ---- what follows a head may be left out
+
+-- a first item that accepts is the head
+first_says : {A E : Type 0} (result : Result (Option (A × ℕ)) E) (text : List ℕ) (a : A) (n : ℕ) (others : List (Placed A E))
+    → items_by result text ≡ record { item = HeadItem (Ok a); place = n } ∷ others → result ≡ Ok (Some (a, n))
+first_says {A} {E} (Ok None) text a n others is = absurd (list_apart is)
+  where
+    list_apart : {X : Type 0} {x : X} {xs : List X} → ◌≡◌ {A = List X} [] (x ∷ xs) → ⊥
+    list_apart e = absurd cc
+first_says {A} {E} (Ok (Some (b, m))) text a n others is =
+    let same : ◌≡◌ {A = Placed A E} (record { item = HeadItem (Ok b); place = m }) (record { item = HeadItem (Ok a); place = n }) = first_of is in
+    let item : ◌≡◌ {A = Item A E} (HeadItem (Ok b)) (HeadItem (Ok a)) = ap (λ (p : Placed A E). p.item) same in
+    let says : b ≡ a = cc in
+    let place : m ≡ n = ap (λ (p : Placed A E). p.place) same in
+    ap (λ (x : A). Ok (Some (x, m))) says ∙ ap (λ (k : ℕ). Ok (Some (a, k))) place
+  where
+    first_of : {X : Type 0} {x y : X} {xs ys : List X} → x ∷ xs ≡ y ∷ ys → x ≡ y
+    first_of e = cc
+first_says {A} {E} (Err f) text a n others is =
+    let same : ◌≡◌ {A = Placed A E} (record { item = HeadItem (Err f); place = 0 }) (record { item = HeadItem (Ok a); place = n }) = first_of is in
+    let item : ◌≡◌ {A = Item A E} (HeadItem (Err f)) (HeadItem (Ok a)) = ap (λ (p : Placed A E). p.item) same in
+    absurd cc
+  where
+    first_of : {X : Type 0} {x y : X} {xs ys : List X} → x ∷ xs ≡ y ∷ ys → x ≡ y
+    first_of e = cc
+
+-- the reader that has read a head alone has read the text up to its end, and what follows that may be left out
+pub read_front : {A E : Type 0} (head : Head A E) (text unread : List ℕ) (a : A) (n : ℕ)
+    → HasRead head text (record { item = HeadItem (Ok a); place = n } ∷ []) n (record { behind_head = true; unread = unread })
+    → HasRead head (take n text) (record { item = HeadItem (Ok a); place = n } ∷ []) n (record { behind_head = true; unread = [] })
+unfolding items
+read_front {A} {E} head text unread a n has =
+    let whole : items_by (answered head (length text)) text ≡ record { item = HeadItem (Ok a); place = n } ∷ frames_at n unread = read_items head text (record { item = HeadItem (Ok a); place = n } ∷ []) n (record { behind_head = true; unread = unread }) has in
+    let is : answered head (length text) ≡ Ok (Some (a, n)) = first_says (answered head (length text)) text a n (frames_at n unread) whole in
+    let size : length (take n text) ≡ n = omega (arith, length-take n text, has.within) in
+    let front : answered head (length (take n text)) ≡ Ok (Some (a, n)) = ap (answered head) size ∙ head_at head (length text) n a is in
+    let nothing : drop n (take n text) ≡ [] = none_left (take n text) n (omega arith) in
+    record {
+      later = λ more. items_head head (take n text) more a n front ∙ ap (λ (t : List ℕ). record { item = HeadItem (Ok a); place = n } ∷ frames_at n (t ++ more)) nothing;
+      within = omega arith;
+      left = nothing;
+      start = λ behind. absurd cc;
+    }
+  where
+    none_left : (xs : List ℕ) (n : ℕ) → length xs ≤ n → drop n xs ≡ []
+    none_left xs n short = grind (arith, common_steps)

@@ -1,5 +1,5 @@
 //! What holds of the items of a text. Each function has an empty body: its clauses are what is proved.
-ghost use Rattle.std.specs.Prelude.{◌≡◌, ℕ, ◌+◌, ◌-◌, ◌≤◌, true, false, List, [], ◌∷◌, ◌++◌, length, drop, Option, Some, None, Result, Ok, Err, ⊤};
+ghost use Rattle.std.specs.Prelude.{◌≡◌, ◌≢◌, ℕ, ◌+◌, ◌-◌, true, false, List, [], ◌∷◌, ◌++◌, length, take, drop, Option, Some, None, Result, Ok, Err, ⊤};
 ghost use Rattle.ra_model.specs.declared.frame.Frame.{Frame};
 ghost use Rattle.ra_model.specs.Frames.{frame_bytes};
 ghost use Rattle.ra_model.specs.FirstFrame.{first_frame, is_too_long, stated};
@@ -14,12 +14,14 @@ ghost use Rattle.ra_items.specs.Items.{Placed, frames_at, items, fresh_items};
 ghost use Rattle.ra_items.specs.Items.Item.{HeadItem, FrameItem, TooLong};
 ghost use Rattle.ra_items.specs.Readers.{Reader, new_reader, fed, items_ahead, HasRead};
 
-/// The head of a request: an answer to a text gives the head, a front of the text has the same, and all heads of a text give it the
-/// same items.
+/// The head of a request: an answer to a text gives the head, a front of the text has the same, a longer text too once the head is
+/// answered, and all heads of a text give it the same items.
 pub fn request_heads()
     ensures found { (text : List ℕ) (result : Result (Option (Upgrade × ℕ)) HeadFault) → HeadIs text result
         → (head : Head Upgrade HeadFault) × IsRequestOf text head × (answered head (length text) ≡ result) }
     ensures front { (text more : List ℕ) (head : Head Upgrade HeadFault) → IsRequestOf (text ++ more) head → IsRequestOf text head }
+    ensures stays { (text more : List ℕ) (head : Head Upgrade HeadFault) → answered head (length text) ≢ Ok None
+        → IsRequestOf text head → IsRequestOf (text ++ more) head }
     ensures one { (text : List ℕ) (head other : Head Upgrade HeadFault) → IsRequestOf text head → IsRequestOf text other
         → items head text ≡ items other text }
 {}
@@ -29,6 +31,8 @@ pub fn answer_heads()
     ensures found { (key text : List ℕ) (result : Result (Option ℕ) AnswerFault) → AnswerIs key text result
         → (head : Head ⊤ AnswerFault) × IsAnswerOf key text head × (length_alone (answered head (length text)) ≡ result) }
     ensures front { (key text more : List ℕ) (head : Head ⊤ AnswerFault) → IsAnswerOf key (text ++ more) head → IsAnswerOf key text head }
+    ensures stays { (key text more : List ℕ) (head : Head ⊤ AnswerFault) → answered head (length text) ≢ Ok None
+        → IsAnswerOf key text head → IsAnswerOf key (text ++ more) head }
     ensures one { (key text : List ℕ) (head other : Head ⊤ AnswerFault) → IsAnswerOf key text head → IsAnswerOf key text other
         → items head text ≡ items other text }
 {}
@@ -64,7 +68,7 @@ pub fn pieces<A, E>()
 {}
 
 /// What a reader has read of a text, and has not: at the start, with a piece more, behind the head, and behind a frame more. Where no
-/// item is ahead, the fresh ones of a piece are those ahead of the reader with that piece.
+/// item is ahead, the fresh ones of a piece are those ahead of the reader with that piece. What follows a head may be left out.
 pub fn reading<A, E>()
     ensures nothing { (head : Head A E) → HasRead head [] [] 0 new_reader }
     ensures piece { (head : Head A E) (text piece : List ℕ) (done : List (Placed A E)) (at : ℕ) (reader : Reader)
@@ -78,6 +82,9 @@ pub fn reading<A, E>()
         → HasRead head text done at (record { behind_head = true; unread = unread }) → first_frame unread ≡ Some (f, rest)
         → HasRead head text (done ++ record { item = FrameItem f; place = at + length (frame_bytes f) } ∷ [])
         (at + length (frame_bytes f)) (record { behind_head = true; unread = rest }) }
+    ensures front { (head : Head A E) (text unread : List ℕ) (says : A) (n : ℕ)
+        → HasRead head text (record { item = HeadItem (Ok says); place = n } ∷ []) n (record { behind_head = true; unread = unread })
+        → HasRead head (take n text) (record { item = HeadItem (Ok says); place = n } ∷ []) n (record { behind_head = true; unread = [] }) }
     ensures items { (head : Head A E) (text : List ℕ) (done : List (Placed A E)) (at : ℕ) (reader : Reader)
         → HasRead head text done at reader → items head text ≡ done ++ items_ahead head at reader }
     ensures fresh { (head : Head A E) (text piece : List ℕ) (done : List (Placed A E)) (at : ℕ) (reader : Reader)

@@ -1,5 +1,5 @@
 //! The running reader: it takes what comes on a link in pieces, and gives its items one after another.
-ghost use Rattle.std.specs.Prelude.{◌≡◌, ◌≢◌, ℕ, true, false, List, Some, None, Ok, Err, IfOk, IfErr, OnOk, OnErr, MatchOption, MatchBool, ⊤};
+ghost use Rattle.std.specs.Prelude.{◌≡◌, ◌≢◌, ℕ, true, false, List, [], Some, None, Ok, Err, IfOk, IfErr, OnOk, OnErr, MatchOption, MatchBool, ⊤};
 ghost use Rattle.ra_model.specs.FirstFrame.{first_frame};
 ghost use Rattle.ra_frame.specs.Fronts.{IsPartial, IsTooLong};
 ghost use Rattle.ra_upgrade.specs.declared.answer_head.AnswerFault.{AnswerFault};
@@ -68,6 +68,13 @@ impl ItemReader {
         ensures { result.now ≡ self.now.unread }
     {
         self.unread.unread()
+    }
+
+    /// Discards what is unread.
+    pub fn clear(&mut self)
+        ensures { self.new ≡ record { behind_head = self.old.behind_head; unread = [] } }
+    {
+        self.unread.clear();
     }
 
     /// The next item, where it is an upgrade request. `None` asks for more bytes. A fault leaves the unread bytes.

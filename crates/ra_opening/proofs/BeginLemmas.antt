@@ -1,27 +1,28 @@
 -- What the head of an opening comes to.
-use Rattle.std.proofs.Common.{◌≡◌, ℕ, ◌+◌, ◌≤◌, Bool, true, false, Option, Some, None, Result, Ok, Err, List, [], ◌∷◌, ◌++◌, refl, sym, ap, subst, ◌∙◌, arith, append_assoc}
+use Rattle.std.proofs.Common.{◌≡◌, ℕ, ◌+◌, ◌≤◌, true, false, Option, Some, None, Result, Ok, Err, List, [], ◌∷◌, ◌++◌, refl, sym, ap, subst, ◌∙◌, arith, append_assoc}
 use Rattle.ra_base.specs.declared.memory.NoMemory.{NoMemory}
 use Rattle.ra_upgrade.specs.declared.request_head.HeadFault.{HeadFault}
 use Rattle.ra_upgrade.specs.declared.request_head.HeadFault.TheVariants as head_faults
 use Rattle.ra_upgrade.specs.declared.request_head.Upgrade.{Upgrade}
 use Rattle.ra_upgrade.specs.AnswerTexts.{answer_text, refusal_text}
 use Rattle.ra_items.specs.Heads.{Head}
-use Rattle.ra_items.specs.Items.{Placed, items}
+use Rattle.ra_items.specs.Items.{Placed}
 use Rattle.ra_items.specs.Items.Item.{HeadItem}
-use Rattle.ra_items.specs.Readers.{Reader, HasRead, items_ahead}
+use Rattle.ra_items.specs.Readers.{Reader}
 use Rattle.ra_items.specs.Reads.{ReadsRequest}
-use Rattle.ra_shake.specs.declared.settings.ShakeSettings.{ShakeSettings}
 use Rattle.ra_shake.specs.declared.server.Stage.TheVariants.{First}
 use Rattle.ra_shake.specs.Made.{made_text}
 use Rattle.ra_shake.specs.States.{ServerState}
 use Rattle.ra_opening.specs.declared.ends.OpeningEnd.{OpeningEnd}
 use Rattle.ra_opening.specs.declared.ends.OpeningEnd.TheVariants as ends
-use Rattle.ra_opening.specs.Openings.{Grounds, Opened, Stage, new_opened, first_state, begun, head_came, items_done, opened}
+use Rattle.ra_opening.specs.Openings.{Grounds, Opened, new_opened, begun, head_came, items_done, opened}
 use Rattle.ra_opening.specs.Openings.Stage.{Heading, Shaking, Over}
-use Rattle.ra_opening.specs.Stands.{Tells, IsUnopened, IsHeading, IsBegun}
-use Rattle.ra_opening.specs.Comes.{IsPart, IsOver, RanShort, Ends}
-use Rattle.ra_opening.specs.Begins.{Draws, draws_for, draws_before, token_by, challenge_by, state_by, BeginsShake, AcceptsHead, RefusesHead}
-use Rattle.ra_opening.proofs.RunLemmas.{opened_is, opened_by, item_by, items_grow, read_part, still_over}
+use Rattle.ra_opening.specs.Stands.{IsUnopened, IsHeading, IsBegun}
+use Rattle.ra_opening.specs.Comes.{IsPart, RanShort, Ends, HasHead, IsKnownAt}
+use Rattle.ra_upgrade.specs.RequestHeads.{HeadIs}
+use Rattle.ra_items.proofs.HeadLemmas.{request_found}
+use Rattle.ra_opening.specs.Begins.{Draws, draws_for, draws_before, token_by, challenge_by, BeginsShake, AcceptsHead, RefusesHead}
+use Rattle.ra_opening.proofs.RunLemmas.{opened_is, item_by, read_part}
 
 -- ---- draws
 
@@ -150,3 +151,16 @@ head_refused g head text before next old new out written fault (ends.BadHead sai
 head_refused g head text before next old new out written fault (ends.Refused reason) x told refuses = absurd refuses
 head_refused g head text before next old new out written fault (ends.TooLong n) x told refuses = absurd refuses
 head_refused g head text before next old new out written fault ends.Left x told refuses = absurd refuses
+
+-- ---- the head is known
+
+pub known_by : (text : List ℕ) (result : Result (Option (Upgrade × ℕ)) HeadFault) → HeadIs text result → HasHead text
+known_by text result answer = let found = request_found text result answer in (found.0, found.1)
+
+pub known_refused : (text : List ℕ) (fault : HeadFault) (end : OpeningEnd) (before out : List ℕ) → RefusesHead fault end before out
+    → ((fault ≡ head_faults.NoMemory → ⊥) → HeadIs text (Err fault)) → IsKnownAt end text
+known_refused text fault ends.NoMemory before out refuses judged = tt
+known_refused text fault (ends.BadHead told) before out refuses judged = known_by text (Err fault) (judged refuses.1)
+known_refused text fault (ends.Refused reason) before out refuses judged = absurd refuses
+known_refused text fault (ends.TooLong n) before out refuses judged = absurd refuses
+known_refused text fault ends.Left before out refuses judged = absurd refuses

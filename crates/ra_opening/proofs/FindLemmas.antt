@@ -1,9 +1,8 @@
 -- What the next frame of a handshake comes to.
-use Rattle.std.proofs.Common.{◌≡◌, ℕ, ◌+◌, ◌<◌, ◌≤◌, Bool, true, false, cond, eqb, Option, Some, None, Err, List, [], ◌∷◌, ◌++◌, length, drop, refl, sym, ap, subst, ◌∙◌, arith, rules}
+use Rattle.std.proofs.Common.{◌≡◌, ℕ, ◌+◌, ◌<◌, ◌≤◌, Bool, true, false, cond, eqb, Some, Err, List, [], ◌∷◌, ◌++◌, length, refl, sym, ap, subst, ◌∙◌, arith, rules}
 use Rattle.ra_frame.specs.declared.reader.FrameFault.{FrameFault}
 use Rattle.ra_frame.specs.declared.reader.FrameFault.TheVariants as frame_faults
 use Rattle.ra_model.specs.declared.frame.Frame.{Frame}
-use Rattle.ra_model.specs.Frames.{frame_bytes}
 use Rattle.ra_model.specs.FirstFrame.{first_frame}
 use Rattle.ra_model.specs.FrameKinds.{FrameKind, frame_kind}
 use Rattle.ra_model.specs.FrameKinds.FrameKind.{Regular, Control, Disconnect, ReplayRequest, Pause, Resume, Other}
@@ -16,7 +15,7 @@ use Rattle.ra_items.specs.Items.Item.{FrameItem, TooLong}
 use Rattle.ra_items.specs.Readers.{Reader, HasRead, items_ahead}
 use Rattle.ra_shake.specs.States.{ServerState}
 use Rattle.ra_opening.specs.declared.ends.OpeningEnd.TheVariants as ends
-use Rattle.ra_opening.specs.Openings.{Grounds, Opened, Stage, new_opened, frame_came, items_done, opened}
+use Rattle.ra_opening.specs.Openings.{Grounds, Opened, new_opened, frame_came, items_done, opened}
 use Rattle.ra_opening.specs.Openings.Stage.{Shaking, Over}
 use Rattle.ra_opening.specs.Stands.{Tells, IsShaking, IsWaiting}
 use Rattle.ra_opening.specs.Comes.{IsOver, RanShort, HasControl, Finds, found_of}

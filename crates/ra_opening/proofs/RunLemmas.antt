@@ -1,7 +1,6 @@
 -- The run of an opening over items: one list after another, items that no longer count, and what was written stays.
-use Rattle.std.proofs.Common.{◌≡◌, ℕ, ◌+◌, ◌≤◌, Option, Some, None, Result, Ok, Err, List, [], ◌∷◌, ◌++◌, refl, sym, ap, subst, ◌∙◌, arith, append_assoc, append-nil}
+use Rattle.std.proofs.Common.{◌≡◌, ℕ, Option, Some, None, Result, Ok, Err, List, [], ◌∷◌, ◌++◌, refl, sym, ap, subst, ◌∙◌, arith, append_assoc, append-nil}
 use Rattle.ra_base.specs.declared.handshake.Request.{Request}
-use Rattle.ra_model.specs.declared.frame.Frame.{Frame}
 use Rattle.ra_model.specs.Frames.{frame_bytes}
 use Rattle.ra_model.specs.FrameKinds.{FrameKind, frame_kind, control_frame}
 use Rattle.ra_model.specs.FrameKinds.FrameKind.{Regular, Control, Disconnect, ReplayRequest, Pause, Resume, Other}
@@ -15,7 +14,7 @@ use Rattle.ra_items.specs.Readers.{Reader, HasRead, items_ahead}
 use Rattle.ra_items.proofs.ReaderLemmas.{read_items}
 use Rattle.ra_shake.specs.declared.server.ShakeStep.{ShakeStep}
 use Rattle.ra_shake.specs.declared.server.ShakeStep.TheVariants.{Say, Ask, Refuse}
-use Rattle.ra_shake.specs.Server.{server_step, server_after}
+use Rattle.ra_shake.specs.Server.{server_step}
 use Rattle.ra_shake.specs.States.{ServerState}
 use Rattle.ra_shake.specs.Texts.{refuse_text}
 use Rattle.ra_opening.specs.declared.ends.OpeningEnd.{OpeningEnd}

@@ -1,17 +1,15 @@
 -- What a message of the handshake comes to.
-use Rattle.std.proofs.Common.{◌≡◌, ◌≢◌, ℕ, ◌+◌, Bool, true, List, [], ◌∷◌, ◌++◌, length, drop, refl, sym, ap, subst, ◌∙◌, arith, append_assoc}
+use Rattle.std.proofs.Common.{◌≡◌, ◌≢◌, ℕ, ◌+◌, Bool, true, List, [], ◌∷◌, ◌++◌, refl, sym, ap, subst, ◌∙◌, append_assoc}
 use Rattle.ra_base.specs.declared.handshake.Reason.{Reason}
 use Rattle.ra_base.specs.declared.handshake.Request.{Request}
-use Rattle.ra_model.specs.declared.frame.Frame.{Frame}
 use Rattle.ra_model.specs.Frames.{frame_bytes}
-use Rattle.ra_model.specs.FrameKinds.{FrameKind, frame_kind, control_frame}
-use Rattle.ra_model.specs.FrameKinds.FrameKind.{Control}
+use Rattle.ra_model.specs.FrameKinds.{FrameKind, control_frame}
 use Rattle.ra_upgrade.specs.declared.request_head.HeadFault.{HeadFault}
 use Rattle.ra_upgrade.specs.declared.request_head.Upgrade.{Upgrade}
 use Rattle.ra_items.specs.Heads.{Head}
-use Rattle.ra_items.specs.Items.{Placed, items}
+use Rattle.ra_items.specs.Items.{Placed}
 use Rattle.ra_items.specs.Items.Item.{FrameItem}
-use Rattle.ra_items.specs.Readers.{Reader, HasRead, items_ahead}
+use Rattle.ra_items.specs.Readers.{Reader, items_ahead}
 use Rattle.ra_shake.specs.declared.server.ShakeStep.{ShakeStep}
 use Rattle.ra_shake.specs.declared.server.ShakeStep.TheVariants.{Say, Ask, Refuse}
 use Rattle.ra_shake.specs.declared.server.Stage.TheVariants as stages
@@ -20,9 +18,9 @@ use Rattle.ra_shake.specs.Server.{server_step, server_after}
 use Rattle.ra_shake.specs.States.{ServerState}
 use Rattle.ra_shake.specs.Texts.{refuse_text}
 use Rattle.ra_opening.specs.declared.ends.OpeningEnd.TheVariants as ends
-use Rattle.ra_opening.specs.Openings.{Grounds, Opened, Stage, new_opened, shaken, frame_came, items_done, opened}
+use Rattle.ra_opening.specs.Openings.{Grounds, Opened, new_opened, shaken, frame_came, items_done, opened}
 use Rattle.ra_opening.specs.Openings.Stage.{Shaking, Asked, Over}
-use Rattle.ra_opening.specs.Stands.{Tells, IsShaking}
+use Rattle.ra_opening.specs.Stands.{IsShaking}
 use Rattle.ra_opening.specs.Comes.{IsPart, IsAsked, IsOver, RanShort, HasControl, IsSaid, IsRefused}
 use Rattle.ra_opening.proofs.RunLemmas.{opened_by, items_both, items_grow, item_more, still_asked, still_over}
 

@@ -1,5 +1,5 @@
 -- What the head of an opening in memory comes to.
-use Rattle.std.specs.Prelude.{◌≡◌, ℕ, ◌+◌, ◌≤◌, Bool, Option, Some, None, Result, Ok, Err, List, ◌++◌}
+use Rattle.std.specs.Prelude.{◌≡◌, ℕ, ◌+◌, ◌≤◌, true, false, Option, Some, None, Result, Ok, Err, List, ◌++◌}
 use Rattle.ra_base.specs.declared.memory.NoMemory.{NoMemory}
 use Rattle.ra_items.specs.Heads.{Head}
 use Rattle.ra_items.specs.Readers.{Reader}
@@ -17,7 +17,7 @@ use Rattle.ra_opening.specs.declared.heading.Headed.{Headed}
 use Rattle.ra_opening.specs.declared.heading.Headed.TheVariants as headed
 use Rattle.ra_opening.specs.Openings.{Grounds}
 use Rattle.ra_opening.specs.Stands.{IsHeading, IsBegun}
-use Rattle.ra_opening.specs.Comes.{Ends}
+use Rattle.ra_opening.specs.Comes.{Ends, HasHead, IsKnownAt}
 
 -- so many draws were made
 abbrev pub Draws : (ℕ → List ℕ) → (ℕ → List ℕ) → ℕ → Type 0
@@ -75,8 +75,13 @@ Heads headed.Waits grounds head text before next reader out = IsHeading grounds 
 Heads (headed.Begun shake skip_frames) grounds head text before next reader out = IsBegun grounds head text before next reader shake skip_frames out
 Heads (headed.End end) grounds head text before next reader out = Ends end grounds head text before next out
 
--- a handshake that is begun waits for a message
-abbrev pub IsBegunIn : Headed → Type 0
-IsBegunIn headed.Waits = Unit {0}
-IsBegunIn (headed.Begun shake skip_frames) = shake.stage ≡ First
-IsBegunIn (headed.End end) = Unit {0}
+-- the head is read where a handshake is begun, which then waits for a message
+abbrev pub IsBegunIn : Headed → Reader → Type 0
+IsBegunIn headed.Waits reader = reader.behind_head ≡ false
+IsBegunIn (headed.Begun shake skip_frames) reader = (reader.behind_head ≡ true) × (shake.stage ≡ First)
+IsBegunIn (headed.End end) reader = Unit {0}
+
+abbrev pub IsKnownIn : Headed → List ℕ → Type 0
+IsKnownIn headed.Waits text = HasHead text
+IsKnownIn (headed.Begun shake skip_frames) text = HasHead text
+IsKnownIn (headed.End end) text = IsKnownAt end text

@@ -8,14 +8,13 @@ use Rattle.ra_model.specs.declared.frame.Frame.{Frame}
 use Rattle.ra_model.specs.Frames.{frame_bytes}
 use Rattle.ra_model.specs.FrameKinds.{frame_kind, control_frame}
 use Rattle.ra_model.specs.FrameKinds.FrameKind.{Control}
-use Rattle.ra_items.specs.Heads.{Head}
+use Rattle.ra_items.specs.Heads.{Head, IsRequestOf}
 use Rattle.ra_items.specs.Items.{Placed}
 use Rattle.ra_items.specs.Items.Item.{FrameItem}
 use Rattle.ra_items.specs.Readers.{Reader, HasRead}
 use Rattle.ra_shake.specs.declared.server.ShakeStep.TheVariants.{Say, Ask, Refuse}
 use Rattle.ra_shake.specs.Server.{server_step, server_after}
 use Rattle.ra_shake.specs.States.{ServerState}
-use Rattle.ra_shake.specs.Texts.{refuse_text}
 use Rattle.ra_upgrade.specs.declared.request_head.HeadFault.{HeadFault}
 use Rattle.ra_upgrade.specs.declared.request_head.Upgrade.{Upgrade}
 use Rattle.ra_opening.specs.declared.ends.OpeningEnd.{OpeningEnd}
@@ -26,8 +25,9 @@ use Rattle.ra_opening.specs.declared.shaking.Found.{Found}
 use Rattle.ra_opening.specs.declared.shaking.Found.TheVariants as found
 use Rattle.ra_opening.specs.declared.shaking.Controlled.{Controlled}
 use Rattle.ra_opening.specs.declared.shaking.Controlled.TheVariants as controlled
-use Rattle.ra_opening.specs.Openings.{Grounds, Opened, Stage, new_opened, items_done, opened}
+use Rattle.ra_opening.specs.Openings.{Grounds, Opened, new_opened, items_done, opened}
 use Rattle.ra_opening.specs.Openings.Stage.{Shaking, Asked, Over}
+use Rattle.ra_opening.specs.Verdicts.{refusal_bytes}
 use Rattle.ra_opening.specs.Stands.{OpeningState, Tells, IsWaiting, Stands}
 
 -- the client has asked, and this is what stands behind its message
@@ -101,7 +101,7 @@ pub record IsSaid (signature : List ℕ → List ℕ) (counts : List ℕ → Lis
 
 pub record IsRefused (signature : List ℕ → List ℕ) (counts : List ℕ → List ℕ → Bool) (old : ServerState) (body : List ℕ) (reason : Reason) (before out : List ℕ) : Type 0 where
   pub step : server_step signature counts old body ≡ Refuse reason
-  pub written : out ≡ before ++ frame_bytes (control_frame (refuse_text reason))
+  pub written : out ≡ before ++ refusal_bytes reason
 
 abbrev pub Answers : Controlled → (List ℕ → List ℕ) → (List ℕ → List ℕ → Bool) → ServerState → ServerState → List ℕ → List ℕ → List ℕ → Type 0
 Answers controlled.Said signature counts old new body before out = IsSaid signature counts old new body before out
@@ -113,7 +113,7 @@ Answers controlled.NoMemory signature counts old new body before out = out ≡ b
 abbrev pub Refuses : Controlled → Reason → List ℕ → List ℕ → Type 0
 Refuses controlled.Said reason before out = ⊥
 Refuses (controlled.Ask request) reason before out = ⊥
-Refuses (controlled.Refused told) reason before out = (told ≡ reason) × (out ≡ before ++ frame_bytes (control_frame (refuse_text reason)))
+Refuses (controlled.Refused told) reason before out = (told ≡ reason) × (out ≡ before ++ refusal_bytes reason)
 Refuses controlled.NoMemory reason before out = out ≡ before
 
 abbrev pub IsControl : Found → Type 0
@@ -128,3 +128,22 @@ abbrev pub Shakes : OpeningStep → Grounds → Head Upgrade HeadFault → List 
 Shakes steps.Waits grounds head text before next reader shake out = IsWaiting grounds head text before next reader shake out
 Shakes (steps.Ask request) grounds head text before next reader shake out = IsAsked grounds head text before next request reader.unread out
 Shakes (steps.End end) grounds head text before next reader shake out = Ends end grounds head text before next out
+
+-- ---- the head is known
+
+-- some head answers each front of the text
+abbrev pub HasHead : List ℕ → Type 0
+HasHead text = (head : Head Upgrade HeadFault) × IsRequestOf text head
+
+-- only where memory ran out it was not judged
+abbrev pub IsKnownAt : OpeningEnd → List ℕ → Type 0
+IsKnownAt ends.NoMemory text = ⊤
+IsKnownAt (ends.BadHead fault) text = HasHead text
+IsKnownAt (ends.Refused reason) text = HasHead text
+IsKnownAt (ends.TooLong n) text = HasHead text
+IsKnownAt ends.Left text = HasHead text
+
+abbrev pub IsKnown : OpeningStep → List ℕ → Type 0
+IsKnown steps.Waits text = HasHead text
+IsKnown (steps.Ask request) text = HasHead text
+IsKnown (steps.End end) text = IsKnownAt end text

@@ -2,3 +2,4 @@ pub mod Openings
 pub mod Stands
 pub mod Comes
 pub mod Begins
+pub mod Verdicts

@@ -2,7 +2,6 @@
 -- the head and goes on with the handshake, up to the message that asks for a session. In what pieces the bytes came does not matter.
 use Rattle.std.specs.Prelude.{ℕ, ◌+◌, Bool, Option, Some, None, Result, Ok, Err, List, [], ◌∷◌, ◌++◌}
 use Rattle.ra_base.specs.declared.handshake.Request.{Request}
-use Rattle.ra_model.specs.declared.frame.Frame.{Frame}
 use Rattle.ra_model.specs.Frames.{frame_bytes}
 use Rattle.ra_model.specs.FrameKinds.{FrameKind, frame_kind, control_frame}
 use Rattle.ra_model.specs.FrameKinds.FrameKind.{Regular, Control, Disconnect, ReplayRequest, Pause, Resume, Other}
@@ -19,7 +18,7 @@ use Rattle.ra_shake.specs.declared.server.Stage.TheVariants.{First}
 use Rattle.ra_shake.specs.Made.{made_text}
 use Rattle.ra_shake.specs.Server.{server_step, server_after}
 use Rattle.ra_shake.specs.States.{ServerState}
-use Rattle.ra_shake.specs.Texts.{refuse_text}
+use Rattle.ra_opening.specs.Verdicts.{refusal_bytes}
 use Rattle.ra_opening.specs.declared.ends.OpeningEnd.{OpeningEnd}
 use Rattle.ra_opening.specs.declared.ends.OpeningEnd.TheVariants as ends
 
@@ -80,7 +79,7 @@ abbrev pub shaken : ShakeStep → ServerState → ℕ → Opened → Opened
 shaken (Say text) shake place s = record s { stage = Shaking (server_after shake (Say text)); out = s.out ++ frame_bytes (control_frame text) }
 shaken (Ask request) shake place s = record s { stage = Asked request place }
 shaken (Refuse reason) shake place s =
-    record s { stage = Over (ends.Refused reason); out = s.out ++ frame_bytes (control_frame (refuse_text reason)) }
+    record s { stage = Over (ends.Refused reason); out = s.out ++ refusal_bytes reason }
 
 -- a control frame is a message of the handshake, and a Disconnect ends it; other frames are passed over
 abbrev pub frame_came : Grounds → FrameKind → List ℕ → ServerState → ℕ → Opened → Opened

@@ -1,16 +1,17 @@
 -- Where an opening in memory stands, after the bytes that came, and what was written and drawn for them.
-use Rattle.std.specs.Prelude.{◌≡◌, ℕ, ◌+◌, Bool, true, false, Ok, List, [], ◌∷◌, ◌++◌}
+use Rattle.std.specs.Prelude.{◌≡◌, ◌≢◌, ℕ, ◌+◌, Bool, true, false, Ok, List, [], ◌∷◌, ◌++◌}
 use Rattle.ra_items.specs.Heads.{Head}
 use Rattle.ra_items.specs.Items.{Placed, items}
 use Rattle.ra_items.specs.Items.Item.{HeadItem}
-use Rattle.ra_items.specs.Readers.{Reader, HasRead}
+use Rattle.ra_items.specs.Readers.{Reader, HasRead, new_reader}
+use Rattle.ra_shake.specs.declared.server.Stage.TheVariants as stages
 use Rattle.ra_shake.specs.States.{ServerState}
 use Rattle.ra_upgrade.specs.declared.request_head.HeadFault.{HeadFault}
 use Rattle.ra_upgrade.specs.declared.request_head.Upgrade.{Upgrade}
 use Rattle.ra_opening.specs.declared.phase.Phase.{Phase}
 use Rattle.ra_opening.specs.declared.phase.Phase.TheVariants as phases
-use Rattle.ra_opening.specs.Openings.{Grounds, Opened, Stage, new_opened, head_came, items_done}
-use Rattle.ra_opening.specs.Openings.Stage.{Heading, Shaking}
+use Rattle.ra_opening.specs.Openings.{Grounds, Opened, new_opened, head_came, items_done}
+use Rattle.ra_opening.specs.Openings.Stage.{Shaking}
 
 -- what an opening in memory holds: the unread bytes, and how far it is
 pub record OpeningState : Type 0 where
@@ -70,3 +71,37 @@ StandsIn phases.Over grounds head text before next reader out = ⊥
 -- the opening that is not over, after this text
 abbrev pub Stands : Grounds → Head Upgrade HeadFault → List ℕ → List ℕ → (ℕ → List ℕ) → OpeningState → List ℕ → Type 0
 Stands grounds head text before next opening out = StandsIn opening.phase grounds head text before next opening.reader out
+
+abbrev pub new_opening : OpeningState
+new_opening = record { reader = new_reader; phase = phases.Heading }
+
+-- the opening is not over
+abbrev pub IsOpen : OpeningState → Type 0
+IsOpen opening = opening.phase ≢ phases.Over
+
+-- its head was accepted, and the link is to be framed before more is read
+abbrev pub NeedsFraming : Phase → Type 0
+NeedsFraming phases.Heading = ⊥
+NeedsFraming (phases.Held shake) = Unit {0}
+NeedsFraming (phases.Shaking shake) = ⊥
+NeedsFraming phases.Over = ⊥
+
+-- behind the head stands a handshake that is not over
+abbrev pub PhaseFits : Phase → Reader → Type 0
+PhaseFits phases.Heading reader = reader.behind_head ≡ false
+PhaseFits (phases.Held shake) reader = (reader.behind_head ≡ true) × (shake.stage ≢ stages.Over)
+PhaseFits (phases.Shaking shake) reader = (reader.behind_head ≡ true) × (shake.stage ≢ stages.Over)
+PhaseFits phases.Over reader = Unit {0}
+
+abbrev pub framed_phase : Phase → Phase
+framed_phase phases.Heading = phases.Heading
+framed_phase (phases.Held shake) = phases.Shaking shake
+framed_phase (phases.Shaking shake) = phases.Shaking shake
+framed_phase phases.Over = phases.Over
+
+-- where an opening stands when a piece more has come, and nothing was done for it
+abbrev pub IsFed : Phase → Grounds → Head Upgrade HeadFault → List ℕ → List ℕ → (ℕ → List ℕ) → Reader → List ℕ → Type 0
+IsFed phases.Heading grounds head text before next reader out = IsUnopened grounds head text before next reader out
+IsFed (phases.Held shake) grounds head text before next reader out = IsHeld grounds head text before next reader shake out
+IsFed (phases.Shaking shake) grounds head text before next reader out = IsShaking grounds head text before next reader shake out
+IsFed phases.Over grounds head text before next reader out = ⊥

@@ -6,7 +6,7 @@ ghost use Rattle.ra_shake.specs.declared.server.Stage.TheVariants as stages;
 ghost use Rattle.ra_upgrade.specs.declared.request_head.HeadFault.{HeadFault};
 ghost use Rattle.ra_upgrade.specs.declared.request_head.Upgrade.{Upgrade};
 ghost use Rattle.ra_opening.specs.Stands.{IsUnopened};
-ghost use Rattle.ra_opening.specs.Begins.{BeginsShake, AcceptsHead, RefusesHead, Heads, Draws, token_by, draws_before, IsBegunIn};
+ghost use Rattle.ra_opening.specs.Begins.{BeginsShake, AcceptsHead, RefusesHead, Heads, Draws, token_by, draws_before, IsBegunIn, IsKnownIn};
 
 use crate::ends::OpeningEnd;
 use crate::writing::write;
@@ -146,7 +146,8 @@ pub(crate) fn open_head<E: Entropy>(
         → IsRequestOf text head
         → IsUnopened (record { settings = settings.now; signature = signature; counts = counts; draw = draw }) head text before (E.draw entropy.old) reader.old out.old.items
         → Heads result (record { settings = settings.now; signature = signature; counts = counts; draw = draw }) head text before (E.draw entropy.new) reader.new out.new.items }
-    ensures stage { IsBegunIn result }
+    ensures known { IsKnownIn result reader.old.unread }
+    ensures begun { IsBegunIn result reader.new }
 {
     match reader.next_request(alloc) {
         Ok(None) => Headed::Waits,

@@ -6,8 +6,12 @@
 
 pub mod ends;
 mod heading;
+pub mod laws;
+pub mod opening;
 mod phase;
 mod shaking;
-mod writing;
+pub mod writing;
 
 pub use ends::{OpeningEnd, OpeningStep};
+pub use opening::Opening;
+pub use writing::{write_acceptance, write_refusal};

@@ -11,12 +11,12 @@ ghost use Rattle.ra_opening.specs.Stands.{IsShaking};
 ghost use Rattle.ra_opening.specs.Comes.{Finds, Answers, Refuses, Shakes, IsControl, found_of};
 
 use crate::ends::{OpeningEnd, OpeningStep};
-use crate::writing::write_control;
+use crate::writing::{write_control, write_refusal};
 use ra_base::{Message, Reason, Request};
 use ra_frame::FrameFault;
 use ra_items::ItemReader;
 use ra_ports::Signer;
-use ra_shake::{ServerShake, ShakeStep, refuse_text};
+use ra_shake::{ServerShake, ShakeStep};
 use std::alloc::Global;
 
 /// What the frames of a handshake come to, up to the first that counts.
@@ -102,10 +102,7 @@ fn answer_control<G: Signer>(
 fn refuse(alloc: Global, reason: Reason, out: &mut Vec<u8>) -> Controlled
     ensures { Refuses result reason out.old.items out.new.items }
 {
-    let Ok(text) = refuse_text(alloc, reason) else {
-        return Controlled::NoMemory;
-    };
-    match write_control(out, text.as_slice()) {
+    match write_refusal(alloc, reason, out) {
         Ok(()) => Controlled::Refused { reason },
         Err(_) => Controlled::NoMemory,
     }
@@ -125,6 +122,7 @@ pub(crate) fn shake_on<G: Signer>(
         → IsShaking (record { settings = settings; signature = G.signature_of signer.now; counts = G.counts signer.now; draw = draw }) head text before next reader.old shake.old out.old.items
         → Shakes result (record { settings = settings; signature = G.signature_of signer.now; counts = G.counts signer.now; draw = draw }) head text before next reader.new shake.new out.new.items }
     ensures open { result ≡ OpeningStep.Waits → shake.new.stage ≢ stages.Over }
+    ensures behind { reader.new.behind_head ≡ true }
 {
     'controls: loop {
         let body = match find(alloc, reader) {

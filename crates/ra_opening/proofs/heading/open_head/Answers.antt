@@ -1,6 +1,6 @@
-use Rattle.std.proofs.Common.{◌≡◌, [], Ok, Err, Some, None, true, false, ap, ◌∙◌}
+use Rattle.std.proofs.Common.{[], Ok, Some, None, ap, ◌∙◌}
 use Rattle.ra_opening.specs.Openings.{Grounds}
-use Rattle.ra_opening.proofs.BeginLemmas.{head_waits, head_begun, head_short, head_refused}
+use Rattle.ra_opening.proofs.BeginLemmas.{head_waits, head_begun, head_short, head_refused, known_by, known_refused}
 use Rattle.ra_opening.proofs.heading.open_head.Goals as goal
 
 pub returns-in-Ok-None-clause-made : goal.returns-in-Ok-None-clause-made
@@ -31,3 +31,17 @@ returns-in-Err-clause-made g c = λ signature counts draw head text before is x.
     let grounds : Grounds = record { settings = c.args.settings.now; signature = signature; counts = counts; draw = draw } in
     head_refused grounds head text before (g.E.Entropy.draw c.args.entropy.now) c.args.reader.now c.next_request.new.self
     c.args.out.now.items c.refuse_head.new.out.items c.in-Err.fault c.refuse_head.result x (c.in-Err.ensures.read head text [] 0 is x.read) c.refuse_head.ensures
+
+pub returns-in-Ok-None-clause-known : goal.returns-in-Ok-None-clause-known
+returns-in-Ok-None-clause-known g c =
+    let found = rw c.in-Ok-None.field-0-is at c.in-Ok-None.ensures.found in
+    known_by c.args.reader.now.unread (Ok None) found.0
+
+pub returns-in-Ok-clause-known : goal.returns-in-Ok-clause-known
+returns-in-Ok-clause-known g c =
+    let found = rw c.in-Ok-Some.field-0-is at c.in-Ok-Some.ensures.found in
+    known_by c.args.reader.now.unread (Ok (Some (c.in-Ok-Some.upgrade, found.0))) found.1
+
+pub returns-in-Err-clause-known : goal.returns-in-Err-clause-known
+returns-in-Err-clause-known g c =
+    known_refused c.args.reader.now.unread c.in-Err.fault c.refuse_head.result c.args.out.now.items c.refuse_head.new.out.items c.refuse_head.ensures c.in-Err.ensures.refused

@@ -1,4 +1,4 @@
-use Rattle.std.proofs.Common.{◌≡◌, ◌<◌, ℕ, List, Some, length, arith}
+use Rattle.std.proofs.Common.{◌≡◌, ◌<◌, Some, length, arith}
 use Rattle.ra_model.specs.FirstFrame.{first_frame}
 use Rattle.ra_opening.proofs.FindLemmas.{find_waits, find_fault, find_control, find_left, frame_shortens, passes_on}
 use Rattle.ra_opening.proofs.shaking.find.Goals as goal
