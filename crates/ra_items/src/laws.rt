@@ -19,10 +19,12 @@ ghost use Rattle.ra_items.specs.Readers.{Reader, new_reader, fed, items_ahead, H
 pub fn request_heads()
     ensures found { (text : List ℕ) (result : Result (Option (Upgrade × ℕ)) HeadFault) → HeadIs text result
         → (head : Head Upgrade HeadFault) × IsRequestOf text head × (answered head (length text) ≡ result) }
-    ensures front { (text more : List ℕ) (head : Head Upgrade HeadFault) → IsRequestOf (text ++ more) head → IsRequestOf text head }
+    ensures front { (text more : List ℕ) (head : Head Upgrade HeadFault) → IsRequestOf (text ++ more) head
+        → IsRequestOf text head }
     ensures stays { (text more : List ℕ) (head : Head Upgrade HeadFault) → answered head (length text) ≢ Ok None
         → IsRequestOf text head → IsRequestOf (text ++ more) head }
-    ensures one { (text : List ℕ) (head other : Head Upgrade HeadFault) → IsRequestOf text head → IsRequestOf text other
+    ensures one { (text : List ℕ) (head other : Head Upgrade HeadFault) → IsRequestOf text head
+        → IsRequestOf text other
         → items head text ≡ items other text }
 {}
 
@@ -30,10 +32,12 @@ pub fn request_heads()
 pub fn answer_heads()
     ensures found { (key text : List ℕ) (result : Result (Option ℕ) AnswerFault) → AnswerIs key text result
         → (head : Head ⊤ AnswerFault) × IsAnswerOf key text head × (length_alone (answered head (length text)) ≡ result) }
-    ensures front { (key text more : List ℕ) (head : Head ⊤ AnswerFault) → IsAnswerOf key (text ++ more) head → IsAnswerOf key text head }
+    ensures front { (key text more : List ℕ) (head : Head ⊤ AnswerFault) → IsAnswerOf key (text ++ more) head
+        → IsAnswerOf key text head }
     ensures stays { (key text more : List ℕ) (head : Head ⊤ AnswerFault) → answered head (length text) ≢ Ok None
         → IsAnswerOf key text head → IsAnswerOf key (text ++ more) head }
-    ensures one { (key text : List ℕ) (head other : Head ⊤ AnswerFault) → IsAnswerOf key text head → IsAnswerOf key text other
+    ensures one { (key text : List ℕ) (head other : Head ⊤ AnswerFault) → IsAnswerOf key text head
+        → IsAnswerOf key text other
         → items head text ≡ items other text }
 {}
 
@@ -63,7 +67,8 @@ pub fn pieces<A, E>()
         × (drop (length text - length rest) text ≡ rest) }
     ensures refused { (head : Head A E) (text piece : List ℕ) (fault : E) → answered head (length text) ≡ Err fault
         → fresh_items head text piece ≡ [] }
-    ensures over { (head : Head A E) (text piece : List ℕ) (says : A) (n : ℕ) → answered head (length text) ≡ Ok (Some (says, n))
+    ensures over { (head : Head A E) (text piece : List ℕ) (says : A) (n : ℕ)
+        → answered head (length text) ≡ Ok (Some (says, n))
         → is_too_long (rest_of (drop n text)) ≡ true → fresh_items head text piece ≡ [] }
 {}
 
@@ -79,7 +84,8 @@ pub fn reading<A, E>()
         → HasRead head text (done ++ record { item = HeadItem (Ok says); place = n } ∷ []) n
         (record { behind_head = true; unread = drop n unread }) }
     ensures frame { (head : Head A E) (text unread : List ℕ) (done : List (Placed A E)) (at : ℕ) (f : Frame) (rest : List ℕ)
-        → HasRead head text done at (record { behind_head = true; unread = unread }) → first_frame unread ≡ Some (f, rest)
+        → HasRead head text done at (record { behind_head = true; unread = unread })
+        → first_frame unread ≡ Some (f, rest)
         → HasRead head text (done ++ record { item = FrameItem f; place = at + length (frame_bytes f) } ∷ [])
         (at + length (frame_bytes f)) (record { behind_head = true; unread = rest }) }
     ensures front { (head : Head A E) (text unread : List ℕ) (says : A) (n : ℕ)

@@ -85,7 +85,8 @@ impl ItemReader {
         ensures refused { IfErr result (λ fault. fault ≢ head_faults.NoMemory → HeadIs self.old.unread (Err fault)) }
         ensures err { OnErr result (self.new ≡ self.old) }
         ensures read { (head : Head Upgrade HeadFault) (text : List ℕ) (done : List (Placed Upgrade HeadFault)) (at : ℕ)
-            → IsRequestOf text head → HasRead head text done at self.old → ReadsRequest head text done self.new result }
+            → IsRequestOf text head → HasRead head text done at self.old
+            → ReadsRequest head text done self.new result }
     {
         match read_head(alloc, self.unread.unread()) {
             Ok(Some((upgrade, len))) => {
@@ -108,7 +109,8 @@ impl ItemReader {
         ensures refused { IfErr result (λ fault. fault ≢ answer_faults.NoMemory → AnswerIs key self.old.unread (Err fault)) }
         ensures err { OnErr result (self.new ≡ self.old) }
         ensures read { (head : Head ⊤ AnswerFault) (text : List ℕ) (done : List (Placed ⊤ AnswerFault)) (at : ℕ)
-            → IsAnswerOf key text head → HasRead head text done at self.old → ReadsAnswer head text done self.new result }
+            → IsAnswerOf key text head → HasRead head text done at self.old
+            → ReadsAnswer head text done self.new result }
     {
         match read_answer(alloc, key, self.unread.unread()) {
             Ok(Some(size)) => {

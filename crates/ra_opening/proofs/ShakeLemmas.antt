@@ -18,7 +18,7 @@ use Rattle.ra_shake.specs.Server.{server_step, server_after}
 use Rattle.ra_shake.specs.States.{ServerState}
 use Rattle.ra_shake.specs.Texts.{refuse_text}
 use Rattle.ra_opening.specs.declared.ends.OpeningEnd.TheVariants as ends
-use Rattle.ra_opening.specs.Openings.{Grounds, Opened, new_opened, shaken, frame_came, items_done, opened}
+use Rattle.ra_opening.specs.Openings.{Grounds, grounds_of, Opened, new_opened, shaken, frame_came, items_done, opened}
 use Rattle.ra_opening.specs.Openings.Stage.{Shaking, Asked, Over}
 use Rattle.ra_opening.specs.Stands.{IsShaking}
 use Rattle.ra_opening.specs.Comes.{IsPart, IsAsked, IsOver, RanShort, HasControl, IsSaid, IsRefused}
@@ -118,9 +118,6 @@ unanswered g head text before next reader shake body out written x same =
     }
 
 -- ---- as long as it is answered it goes on
-
-abbrev pub grounds_of : ShakeSettings → (List ℕ → List ℕ) → (List ℕ → List ℕ → Bool) → (ℕ → List ℕ) → Grounds
-grounds_of settings signature counts draw = record { settings = settings; signature = signature; counts = counts; draw = draw }
 
 pub record GoesOn (signature : List ℕ → List ℕ) (counts : List ℕ → List ℕ → Bool) (old now : Reader) (shake_old shake_now : ServerState) (out_old out_now : List ℕ) : Type 0 where
   pub behind : now.behind_head ≡ true

@@ -29,6 +29,10 @@ pub record Grounds : Type 0 where
   pub counts : List ℕ → List ℕ → Bool
   pub draw : ℕ → List ℕ
 
+abbrev pub grounds_of : ShakeSettings → (List ℕ → List ℕ) → (List ℕ → List ℕ → Bool) → (ℕ → List ℕ) → Grounds
+grounds_of settings signature counts draw =
+    record { settings = settings; signature = signature; counts = counts; draw = draw }
+
 -- it waits for the head, or for a message of the handshake; or the client has asked for a session, and what follows stands behind that
 -- place; or it is over
 pub data Stage : Type 0 where

@@ -75,11 +75,18 @@ Stands grounds head text before next opening out = StandsIn opening.phase ground
 abbrev pub new_opening : OpeningState
 new_opening = record { reader = new_reader; phase = phases.Heading }
 
--- the opening is not over
+-- the client has asked, or the opening is over without
+abbrev pub IsFinished : OpeningState → Type 0
+IsFinished opening = opening.phase ≡ phases.Over
+
 abbrev pub IsOpen : OpeningState → Type 0
 IsOpen opening = opening.phase ≢ phases.Over
 
--- its head was accepted, and the link is to be framed before more is read
+-- no head was read
+abbrev pub HasNoHead : OpeningState → Type 0
+HasNoHead opening = opening.phase ≡ phases.Heading
+
+-- the head was accepted, and the link is to be framed before more is read
 abbrev pub NeedsFraming : Phase → Type 0
 NeedsFraming phases.Heading = ⊥
 NeedsFraming (phases.Held shake) = Unit {0}

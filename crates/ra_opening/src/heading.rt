@@ -5,6 +5,7 @@ ghost use Rattle.ra_shake.specs.Made.{made_text};
 ghost use Rattle.ra_shake.specs.declared.server.Stage.TheVariants as stages;
 ghost use Rattle.ra_upgrade.specs.declared.request_head.HeadFault.{HeadFault};
 ghost use Rattle.ra_upgrade.specs.declared.request_head.Upgrade.{Upgrade};
+ghost use Rattle.ra_opening.specs.Openings.{grounds_of};
 ghost use Rattle.ra_opening.specs.Stands.{IsUnopened};
 ghost use Rattle.ra_opening.specs.Begins.{BeginsShake, AcceptsHead, RefusesHead, Heads, Draws, token_by, draws_before, IsBegunIn, IsKnownIn};
 
@@ -23,8 +24,13 @@ pub(crate) enum Headed {
     /// No head has ended.
     Waits,
     /// A head was accepted, and that was written.
-    Begun { shake: ServerShake, skip_frames: bool },
-    End { end: OpeningEnd },
+    Begun {
+        shake: ServerShake,
+        skip_frames: bool,
+    },
+    End {
+        end: OpeningEnd,
+    },
 }
 
 /// A copy of a text, where there is one.
@@ -142,10 +148,12 @@ pub(crate) fn open_head<E: Entropy>(
     out: &mut Vec<u8>,
 ) -> Headed
     requires { reader.old.behind_head ≡ false }
-    ensures made { (signature : List ℕ → List ℕ) (counts : List ℕ → List ℕ → Bool) (draw : ℕ → List ℕ) (head : Head Upgrade HeadFault) (text before : List ℕ)
+    ensures made { (signature : List ℕ → List ℕ) (counts : List ℕ → List ℕ → Bool) (draw : ℕ → List ℕ)
+        (head : Head Upgrade HeadFault) (text before : List ℕ)
         → IsRequestOf text head
-        → IsUnopened (record { settings = settings.now; signature = signature; counts = counts; draw = draw }) head text before (E.draw entropy.old) reader.old out.old.items
-        → Heads result (record { settings = settings.now; signature = signature; counts = counts; draw = draw }) head text before (E.draw entropy.new) reader.new out.new.items }
+        → let grounds = grounds_of settings.now signature counts draw in
+        IsUnopened grounds head text before (E.draw entropy.old) reader.old out.old.items
+        → Heads result grounds head text before (E.draw entropy.new) reader.new out.new.items }
     ensures known { IsKnownIn result reader.old.unread }
     ensures begun { IsBegunIn result reader.new }
 {

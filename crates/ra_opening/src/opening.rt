@@ -5,8 +5,8 @@ ghost use Rattle.ra_shake.specs.declared.server.Stage.TheVariants as stages;
 ghost use Rattle.ra_shake.specs.declared.settings.ShakeSettings.{ShakeSettings};
 ghost use Rattle.ra_upgrade.specs.declared.request_head.HeadFault.{HeadFault};
 ghost use Rattle.ra_upgrade.specs.declared.request_head.Upgrade.{Upgrade};
-ghost use Rattle.ra_opening.specs.Openings.{Grounds};
-ghost use Rattle.ra_opening.specs.Stands.{OpeningState, Stands, IsShaking, IsUnopened, IsFed, IsOpen, PhaseFits, NeedsFraming, new_opening, framed_phase};
+ghost use Rattle.ra_opening.specs.Openings.{Grounds, grounds_of};
+ghost use Rattle.ra_opening.specs.Stands.{OpeningState, Stands, IsShaking, IsUnopened, IsFed, IsOpen, IsFinished, HasNoHead, PhaseFits, NeedsFraming, new_opening, framed_phase};
 ghost use Rattle.ra_opening.specs.Comes.{Comes, IsKnown};
 
 use crate::ends::{OpeningEnd, OpeningStep};
@@ -55,9 +55,12 @@ fn go_on<G: Signer>(
 ) -> Taken
     requires behind { reader.old.behind_head ≡ true }
     requires open { shake.stage ≢ stages.Over }
-    ensures made { (settings : ShakeSettings) (draw : ℕ → List ℕ) (head : Head Upgrade HeadFault) (text before : List ℕ) (next : ℕ → List ℕ)
-        → IsShaking (record { settings = settings; signature = G.signature_of signer.now; counts = G.counts signer.now; draw = draw }) head text before next reader.old shake out.old.items
-        → Comes result.step (record { settings = settings; signature = G.signature_of signer.now; counts = G.counts signer.now; draw = draw }) head text before next (record { reader = reader.new; phase = result.phase }) out.new.items }
+    ensures made { (settings : ShakeSettings) (draw : ℕ → List ℕ) (head : Head Upgrade HeadFault)
+        (text before : List ℕ) (next : ℕ → List ℕ)
+        → let grounds = grounds_of settings (G.signature_of signer.now) (G.counts signer.now) draw in
+        IsShaking grounds head text before next reader.old shake out.old.items
+        → Comes result.step grounds head text before next (record { reader = reader.new; phase = result.phase })
+            out.new.items }
     ensures fits { PhaseFits result.phase reader.new }
     ensures open { result.step ≡ OpeningStep.Waits → result.phase ≢ Phase.Over }
 {
@@ -78,9 +81,12 @@ fn begin<E: Entropy, G: Signer>(
     out: &mut Vec<u8>,
 ) -> Taken
     requires { reader.old.behind_head ≡ false }
-    ensures made { (draw : ℕ → List ℕ) (head : Head Upgrade HeadFault) (text before : List ℕ) → IsRequestOf text head
-        → IsUnopened (record { settings = settings.now; signature = G.signature_of signer.now; counts = G.counts signer.now; draw = draw }) head text before (E.draw entropy.old) reader.old out.old.items
-        → Comes result.step (record { settings = settings.now; signature = G.signature_of signer.now; counts = G.counts signer.now; draw = draw }) head text before (E.draw entropy.new) (record { reader = reader.new; phase = result.phase }) out.new.items }
+    ensures made { (draw : ℕ → List ℕ) (head : Head Upgrade HeadFault) (text before : List ℕ)
+        → IsRequestOf text head
+        → let grounds = grounds_of settings.now (G.signature_of signer.now) (G.counts signer.now) draw in
+        IsUnopened grounds head text before (E.draw entropy.old) reader.old out.old.items
+        → Comes result.step grounds head text before (E.draw entropy.new)
+            (record { reader = reader.new; phase = result.phase }) out.new.items }
     ensures known { IsKnown result.step reader.old.unread }
     ensures fits { PhaseFits result.phase reader.new }
     ensures open { result.step ≡ OpeningStep.Waits → result.phase ≢ Phase.Over }
@@ -110,9 +116,12 @@ fn take_piece<E: Entropy, G: Signer>(
 ) -> Taken
     requires fits { PhaseFits phase reader.old }
     requires open { phase ≢ Phase.Over }
-    ensures made { (draw : ℕ → List ℕ) (head : Head Upgrade HeadFault) (text before : List ℕ) → IsRequestOf text head
-        → IsFed phase (record { settings = settings.now; signature = G.signature_of signer.now; counts = G.counts signer.now; draw = draw }) head text before (E.draw entropy.old) reader.old out.old.items
-        → Comes result.step (record { settings = settings.now; signature = G.signature_of signer.now; counts = G.counts signer.now; draw = draw }) head text before (E.draw entropy.new) (record { reader = reader.new; phase = result.phase }) out.new.items }
+    ensures made { (draw : ℕ → List ℕ) (head : Head Upgrade HeadFault) (text before : List ℕ)
+        → IsRequestOf text head
+        → let grounds = grounds_of settings.now (G.signature_of signer.now) (G.counts signer.now) draw in
+        IsFed phase grounds head text before (E.draw entropy.old) reader.old out.old.items
+        → Comes result.step grounds head text before (E.draw entropy.new)
+            (record { reader = reader.new; phase = result.phase }) out.new.items }
     ensures known { phase ≡ Phase.Heading → IsKnown result.step reader.old.unread }
     ensures fits { PhaseFits result.phase reader.new }
     ensures open { result.step ≡ OpeningStep.Waits → result.phase ≢ Phase.Over }
@@ -163,8 +172,19 @@ impl Opening {
         }
     }
 
-    /// Takes the next piece, and writes what is answered to all that is whole then. The settings and the signer are to be the same for
-    /// all pieces of a link. Where the head asks for WebSocket messages, nothing behind it is looked at before `set_framed`.
+    /// Whether it has asked, or is over without.
+    pub fn is_over(&self) -> bool
+        ensures { IsTrue result ↔ IsFinished self.now }
+    {
+        match &self.phase {
+            Phase::Over => true,
+            Phase::Heading | Phase::Held { shake: _ } | Phase::Shaking { shake: _ } => false,
+        }
+    }
+
+    /// Takes the next piece, and writes what is answered to all that is whole then. The settings and the signer are to be
+    /// the same for all pieces of a link. Where the head asks for WebSocket messages, nothing behind it is looked at before
+    /// `set_framed`.
     pub fn piece<E: Entropy, G: Signer>(
         &mut self,
         alloc: Global,
@@ -175,10 +195,12 @@ impl Opening {
         out: &mut Vec<u8>,
     ) -> OpeningStep
         requires { IsOpen self.old }
-        ensures made { (draw : ℕ → List ℕ) (head : Head Upgrade HeadFault) (text before : List ℕ) → IsRequestOf (text ++ piece.now) head
-            → Stands (record { settings = settings.now; signature = G.signature_of signer.now; counts = G.counts signer.now; draw = draw }) head text before (E.draw entropy.old) self.old out.old.items
-            → Comes result (record { settings = settings.now; signature = G.signature_of signer.now; counts = G.counts signer.now; draw = draw }) head (text ++ piece.now) before (E.draw entropy.new) self.new out.new.items }
-        ensures known { self.old.phase ≡ Phase.Heading → IsKnown result (self.old.reader.unread ++ piece.now) }
+        ensures made { (draw : ℕ → List ℕ) (head : Head Upgrade HeadFault) (text before : List ℕ)
+            → IsRequestOf (text ++ piece.now) head
+            → let grounds = grounds_of settings.now (G.signature_of signer.now) (G.counts signer.now) draw in
+            Stands grounds head text before (E.draw entropy.old) self.old out.old.items
+            → Comes result grounds head (text ++ piece.now) before (E.draw entropy.new) self.new out.new.items }
+        ensures known { HasNoHead self.old → IsKnown result (self.old.reader.unread ++ piece.now) }
         ensures open { result ≡ OpeningStep.Waits → IsOpen self.new }
     {
         let phase = mem::replace(&mut self.phase, Phase::Over);
@@ -203,8 +225,8 @@ impl Opening {
         }
     }
 
-    /// The unread bytes: where the link is to be framed the front of its framed stream, and behind a request what the session
-    /// begins with.
+    /// The unread bytes: where the link is to be framed the front of its framed stream, and behind a request what the
+    /// session begins with.
     pub fn unread(&self) -> &[u8]
         ensures { result.now ≡ self.now.reader.unread }
     {
@@ -214,7 +236,8 @@ impl Opening {
     /// From here on the pieces are those of the framed stream's payload. The unread bytes are discarded.
     pub fn set_framed(&mut self)
         requires { NeedsFraming self.old.phase }
-        ensures made { (grounds : Grounds) (head : Head Upgrade HeadFault) (text before : List ℕ) (next : ℕ → List ℕ) (out : List ℕ)
+        ensures made { (grounds : Grounds) (head : Head Upgrade HeadFault) (text before : List ℕ)
+            (next : ℕ → List ℕ) (out : List ℕ)
             → Stands grounds head text before next self.old out
             → Stands grounds head (take (length text - length self.old.reader.unread) text) before next self.new out }
         ensures open { IsOpen self.new }

@@ -6,7 +6,7 @@ ghost use Rattle.ra_shake.specs.declared.settings.ShakeSettings.{ShakeSettings};
 ghost use Rattle.ra_shake.specs.States.{ServerState};
 ghost use Rattle.ra_upgrade.specs.declared.request_head.HeadFault.{HeadFault};
 ghost use Rattle.ra_upgrade.specs.declared.request_head.Upgrade.{Upgrade};
-ghost use Rattle.ra_opening.specs.Openings.{Grounds};
+ghost use Rattle.ra_opening.specs.Openings.{Grounds, grounds_of};
 ghost use Rattle.ra_opening.specs.Stands.{IsShaking};
 ghost use Rattle.ra_opening.specs.Comes.{Finds, Answers, Refuses, Shakes, IsControl, found_of};
 
@@ -57,8 +57,10 @@ fn find(alloc: Global, reader: &mut ItemReader) -> Found
     requires { reader.old.behind_head ≡ true }
     ensures behind { reader.new.behind_head ≡ true }
     ensures shorter { IsControl result → length reader.new.unread < length reader.old.unread }
-    ensures found { (grounds : Grounds) (head : Head Upgrade HeadFault) (text before : List ℕ) (next : ℕ → List ℕ) (shake : ServerState) (out : List ℕ)
-        → IsShaking grounds head text before next reader.old shake out → Finds result grounds head text before next reader.new shake out }
+    ensures found { (grounds : Grounds) (head : Head Upgrade HeadFault) (text before : List ℕ) (next : ℕ → List ℕ)
+        (shake : ServerState) (out : List ℕ)
+        → IsShaking grounds head text before next reader.old shake out
+        → Finds result grounds head text before next reader.new shake out }
 {
     'frames: loop {
         match reader.next_frame(alloc) {
@@ -85,7 +87,8 @@ fn answer_control<G: Signer>(
     out: &mut Vec<u8>,
 ) -> Controlled
     requires { shake.old.stage ≢ stages.Over }
-    ensures { Answers result (G.signature_of signer.now) (G.counts signer.now) shake.old shake.new body.now out.old.items out.new.items }
+    ensures { Answers result (G.signature_of signer.now) (G.counts signer.now) shake.old shake.new body.now
+        out.old.items out.new.items }
 {
     match shake.on_control(alloc, signer, body) {
         Err(_) => Controlled::NoMemory,
@@ -118,9 +121,11 @@ pub(crate) fn shake_on<G: Signer>(
 ) -> OpeningStep
     requires behind { reader.old.behind_head ≡ true }
     requires open { shake.old.stage ≢ stages.Over }
-    ensures made { (settings : ShakeSettings) (draw : ℕ → List ℕ) (head : Head Upgrade HeadFault) (text before : List ℕ) (next : ℕ → List ℕ)
-        → IsShaking (record { settings = settings; signature = G.signature_of signer.now; counts = G.counts signer.now; draw = draw }) head text before next reader.old shake.old out.old.items
-        → Shakes result (record { settings = settings; signature = G.signature_of signer.now; counts = G.counts signer.now; draw = draw }) head text before next reader.new shake.new out.new.items }
+    ensures made { (settings : ShakeSettings) (draw : ℕ → List ℕ) (head : Head Upgrade HeadFault)
+        (text before : List ℕ) (next : ℕ → List ℕ)
+        → let grounds = grounds_of settings (G.signature_of signer.now) (G.counts signer.now) draw in
+        IsShaking grounds head text before next reader.old shake.old out.old.items
+        → Shakes result grounds head text before next reader.new shake.new out.new.items }
     ensures open { result ≡ OpeningStep.Waits → shake.new.stage ≢ stages.Over }
     ensures behind { reader.new.behind_head ≡ true }
 {

@@ -22,7 +22,8 @@ pub(crate) fn write(out: &mut Vec<u8>, bytes: &[u8]) -> Result<(), NoMemory>
     Ok(())
 }
 
-/// Adds a control frame with that body, or nothing where there is no memory. A body above the limit of a frame finds none.
+/// Adds a control frame with that body, or nothing where there is no memory. A body above the limit of a frame finds
+/// none.
 pub(crate) fn write_control(out: &mut Vec<u8>, body: &[u8]) -> Result<(), NoMemory>
     ensures ok { OnOk result (out.new.items ≡ out.old.items ++ frame_bytes (control_frame body.now)) }
     ensures err { OnErr result (out.new.items ≡ out.old.items) }
@@ -35,7 +36,8 @@ pub(crate) fn write_control(out: &mut Vec<u8>, body: &[u8]) -> Result<(), NoMemo
 
 /// Adds a Pause frame, and a control frame with that body, or nothing where there is no memory.
 fn write_paused(alloc: Global, out: &mut Vec<u8>, body: &[u8]) -> Result<(), NoMemory>
-    ensures ok { OnOk result (out.new.items ≡ out.old.items ++ (frame_bytes pause_frame ++ frame_bytes (control_frame body.now))) }
+    ensures ok { OnOk result (out.new.items
+        ≡ out.old.items ++ (frame_bytes pause_frame ++ frame_bytes (control_frame body.now))) }
     ensures err { OnErr result (out.new.items ≡ out.old.items) }
 {
     let mut frames = Vec::new(alloc);
@@ -53,7 +55,8 @@ pub fn write_refusal(alloc: Global, reason: Reason, out: &mut Vec<u8>) -> Result
     write_control(out, text.as_slice())
 }
 
-/// Adds the answer to a client whose request is accepted, or nothing where there is no memory. An extension host begins paused.
+/// Adds the answer to a client whose request is accepted, or nothing where there is no memory. An extension host begins
+/// paused.
 pub fn write_acceptance(alloc: Global, kind: Kind, out: &mut Vec<u8>) -> Result<(), NoMemory>
     requires { kind ≢ kinds.Tunnel }
     ensures ok { OnOk result (out.new.items ≡ out.old.items ++ acceptance_bytes kind) }

@@ -122,7 +122,8 @@ impl Link for MemLink {
         requires { 0 < length into.old }
         ensures piece { IsPiece result into.new }
         ensures bytes { Takes (incoming_of self.old).left (incoming_of self.new).left (got_bytes result into.new) }
-        ensures nothing { result ≡ Ok Got.End → (text : List ℕ) → (incoming_of self.old).left ≡ Some text → text ≡ [] }
+        ensures nothing { result ≡ Ok Got.End → (text : List ℕ) → (incoming_of self.old).left ≡ Some text
+            → text ≡ [] }
         ensures ended { self.new.ended ≡ has_ended self.old.ended result }
         ensures over { self.old.ended ≡ true → IfOk result (λ got. got ≡ Got.End) }
         ensures idle { result ≡ Ok Got.NotYet → Rose self.old.idles self.new.idles }

@@ -1,4 +1,4 @@
-use Rattle.std.proofs.Common.{[], Ok, Some, None, ap, ◌∙◌}
+use Rattle.std.proofs.Common.{◌≡◌, true, [], Ok, Some, None, ap, ◌∙◌}
 use Rattle.ra_opening.specs.Openings.{Grounds}
 use Rattle.ra_opening.proofs.BeginLemmas.{head_waits, head_begun, head_short, head_refused, known_by, known_refused}
 use Rattle.ra_opening.proofs.heading.open_head.Goals as goal
@@ -16,15 +16,16 @@ returns-in-Ok-clause-made g c = λ signature counts draw head text before is x.
     let grounds : Grounds = record { settings = c.args.settings.now; signature = signature; counts = counts; draw = draw } in
     let found = rw c.in-Ok-Some.field-0-is at c.in-Ok-Some.ensures.found in
     let told = rw c.in-Ok-Some.field-0-is at (c.in-Ok-Some.ensures.read head text [] 0 is x.read) in
+    let behind : c.next_request.new.self.behind_head ≡ true = ap (λ r. r.behind_head) found.2 in
     head_begun grounds head text before (g.E.Entropy.draw c.args.entropy.now) (g.E.Entropy.draw c.accept_head.new.entropy) c.args.reader.now c.next_request.new.self
-    c.args.out.now.items c.accept_head.new.out.items c.in-Ok-Some.upgrade c.in-Ok.shake x told (ap (λ r. r.behind_head) found.2) c.in-Ok.ensures.begins c.in-Ok.ensures.answers
+    c.args.out.now.items c.accept_head.new.out.items c.in-Ok-Some.upgrade c.in-Ok.shake x told behind c.in-Ok.ensures.begins c.in-Ok.ensures.answers
 
 pub returns-in-Err-accept_head-clause-made : goal.returns-in-Err-accept_head-clause-made
 returns-in-Err-accept_head-clause-made g c = λ signature counts draw head text before is x.
     let grounds : Grounds = record { settings = c.args.settings.now; signature = signature; counts = counts; draw = draw } in
     let told = rw c.in-Ok-Some.field-0-is at (c.in-Ok-Some.ensures.read head text [] 0 is x.read) in
     head_short grounds head text before (g.E.Entropy.draw c.args.entropy.now) (g.E.Entropy.draw c.accept_head.new.entropy) c.args.reader.now c.next_request.new.self
-    c.args.out.now.items c.accept_head.new.out.items c.in-Ok-Some.upgrade (record { }) x told c.in-Err-accept_head.ensures.begins c.in-Err-accept_head.ensures.answers
+    c.args.out.now.items c.accept_head.new.out.items c.in-Ok-Some.upgrade (record {}) x told c.in-Err-accept_head.ensures.begins c.in-Err-accept_head.ensures.answers
 
 pub returns-in-Err-clause-made : goal.returns-in-Err-clause-made
 returns-in-Err-clause-made g c = λ signature counts draw head text before is x.

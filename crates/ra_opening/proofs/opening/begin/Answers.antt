@@ -1,6 +1,5 @@
-use Rattle.ra_opening.specs.Openings.{Grounds}
+use Rattle.ra_opening.specs.Openings.{Grounds, grounds_of}
 use Rattle.ra_opening.proofs.PieceLemmas.{begun_shaking}
-use Rattle.ra_opening.proofs.ShakeLemmas.{grounds_of}
 use Rattle.ra_opening.proofs.opening.begin.Goals as goal
 
 pub returns-in-Waits-clause-made : goal.returns-in-Waits-clause-made

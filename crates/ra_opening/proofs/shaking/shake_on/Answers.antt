@@ -1,5 +1,5 @@
-use Rattle.ra_opening.specs.Openings.{Grounds}
-use Rattle.ra_opening.proofs.ShakeLemmas.{grounds_of, asked, refused, unanswered, goes_on}
+use Rattle.ra_opening.specs.Openings.{Grounds, grounds_of}
+use Rattle.ra_opening.proofs.ShakeLemmas.{asked, refused, unanswered, goes_on}
 use Rattle.ra_opening.proofs.shaking.shake_on.Goals as goal
 
 pub returns-in-Waits-clause-made : goal.returns-in-Waits-clause-made

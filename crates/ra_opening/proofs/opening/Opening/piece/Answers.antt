@@ -1,7 +1,6 @@
 use Rattle.std.proofs.Common.{◌++◌}
-use Rattle.ra_opening.specs.Openings.{Grounds}
+use Rattle.ra_opening.specs.Openings.{Grounds, grounds_of}
 use Rattle.ra_opening.proofs.PieceLemmas.{stands_short, fed_by}
-use Rattle.ra_opening.proofs.ShakeLemmas.{grounds_of}
 use Rattle.ra_opening.proofs.opening.Opening.piece.Goals as goal
 
 pub returns-in-Err-clause-made : goal.returns-in-Err-clause-made
