@@ -143,6 +143,7 @@ take_past xs ys n past =
   where
     drop_front : (xs ys : List ℕ) → drop (length xs) (xs ++ ys) ≡ ys
     drop_front xs ys = grind (arith, common_steps)
+
     take_front : (xs ys : List ℕ) → take (length xs) (xs ++ ys) ≡ xs
     take_front xs ys = grind (arith, common_steps)
 

@@ -1,7 +1,8 @@
 -- What a link in memory holds, and what its calls make of it.
-use Rattle.std.specs.Prelude.{◌≡◌, ◌⊎◌, ℕ, Bool, true, false, if◌then◌else◌, Option, Some, None, List, [], length, All, Contains, Result, OnOk, OnErr}
+use Rattle.std.specs.Prelude.{◌≡◌, ◌⊎◌, ℕ, Bool, true, false, if◌then◌else◌, Option, Some, None, List, [], ◌∷◌, length, All, Contains, Result, Ok, Err, MatchResult, OnOk, OnErr}
 use Rattle.ra_ports.specs.declared.Failed.{Failed}
 use Rattle.ra_ports.specs.declared.link.Got.{Got}
+use Rattle.ra_ports.specs.declared.link.Got.TheVariants.{Bytes, NotYet, End}
 use Rattle.ra_ports.specs.declared.link_step.LinkStep.{LinkStep}
 use Rattle.ra_ports.specs.Causes.{Rose, next_count}
 use Rattle.ra_ports.specs.Links.{Incoming}
@@ -76,8 +77,25 @@ pub record GivesAsListed (old new : LinkScript) (room : ℕ) (result : Result Go
 pub record SendsAsListed (old new : LinkScript) (result : Result ℕ Failed) : Type 0 where
   pub listed : OnOk result (IsListed old → ⊥)
   pub other : OnErr result (IsListed old ⊎ Rose old.short new.short)
+  pub same : OnOk result (new.short ≡ old.short)
 
--- the numbers of the calls that fail are the same, and this call is counted
-pub record CountsCall (old new : LinkScript) : Type 0 where
+-- this call is counted, with its fault, and the steps that come once the link is framed stay
+pub record CountsCall {T : Type 0} (old new : LinkScript) (result : Result T Failed) : Type 0 where
   pub calls : new.calls ≡ next_count old.calls
+  pub faults : MatchResult result (λ _. new.faults ≡ old.faults) (λ _. new.faults ≡ next_count old.faults)
   pub failing : new.failing ≡ old.failing
+  pub after : new.after ≡ old.after
+  pub told : new.told ≡ old.told
+
+-- how often nothing was there yet, after an answer
+abbrev pub idles_after : ℕ → Result Got Failed → ℕ
+idles_after idles (Ok (Bytes n)) = idles
+idles_after idles (Ok NotYet) = next_count idles
+idles_after idles (Ok End) = idles
+idles_after idles (Err failed) = idles
+
+-- the link gives its other steps from the first on, and all else is the same; it tells them only where it told, and nothing of the
+-- framed stream was read before
+abbrev pub framed_link : LinkScript → List ℕ → LinkScript
+framed_link link [] = record link { steps = link.after }
+framed_link link (b ∷ rest) = record link { steps = link.after; told = false }

@@ -113,6 +113,8 @@ fn the_last_moment_in_memory_is_repeated(rt: HostRuntime) -> Result<(), Fail> {
     let moments = Vec::from_array(rt.alloc(), [Moment::start(), later])?;
     assert!(rt; !moments.is_empty());
     let mut clock = MemClock::new(moments);
+    let mut other = clock.clone()?;
+    assert_eq!(rt; millis(&mut other), 0);
     assert_eq!(rt; millis(&mut clock), 0);
     assert_eq!(rt; millis(&mut clock), 5);
     assert_eq!(rt; millis(&mut clock), 5);

@@ -6,7 +6,7 @@ use ra_base::Moment;
 use std::marker::Model;
 
 /// Moments from a list, of which the last one is repeated. A contract sees it as the list of the moments that are left.
-#[derive(Drop)]
+#[derive(Clone, Drop)]
 pub struct MemClock {
     moments: Vec<Moment>,
     at: usize,

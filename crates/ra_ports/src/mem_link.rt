@@ -110,7 +110,7 @@ impl MemLink {
 }
 
 impl Link for MemLink {
-    ghost use Rattle.ra_ports.specs.LinkScripts.{incoming_of, GivesAsListed, SendsAsListed, CountsCall};
+    ghost use Rattle.ra_ports.specs.LinkScripts.{incoming_of, idles_after, framed_link, GivesAsListed, SendsAsListed, CountsCall};
 
     ghost incoming = { incoming_of };
 
@@ -133,7 +133,8 @@ impl Link for MemLink {
         ensures keeps { self.new.sent ≡ self.old.sent }
         ensures cause { HasCause self.old.faults self.new.faults result }
         ensures listed { GivesAsListed self.old self.new (length into.new) result }
-        ensures called { CountsCall self.old self.new }
+        ensures called { CountsCall self.old self.new result }
+        ensures idled { self.new.idles ≡ idles_after self.old.idles result }
         ensures room { self.new.short ≡ self.old.short }
     {
         self.calls = self.calls.saturating_add(1);
@@ -163,7 +164,8 @@ impl Link for MemLink {
         ensures keeps { incoming_of self.new ≡ incoming_of self.old }
         ensures cause { HasCause self.old.faults self.new.faults result }
         ensures listed { SendsAsListed self.old self.new result }
-        ensures called { CountsCall self.old self.new }
+        ensures called { CountsCall self.old self.new result }
+        ensures steps { self.new.steps ≡ self.old.steps }
     {
         self.calls = self.calls.saturating_add(1);
         if self.failing.contains(&self.calls) {
@@ -180,8 +182,8 @@ impl Link for MemLink {
 
     /// It never fails. It tells its bytes from then on only where `rest` is empty. A link that has ended stays as it is.
     fn go_framed(&mut self, rest: &[u8]) -> Result<(), LinkFault>
-        ensures steps { self.old.ended ≡ false → self.new.steps ≡ self.old.after }
-        ensures told { self.old.ended ≡ false → self.old.told ≡ true → rest.now ≡ [] → self.new.told ≡ true }
+        ensures framed { self.old.ended ≡ false → self.new ≡ framed_link self.old rest.now }
+        ensures stays { self.old.ended ≡ true → self.new ≡ self.old }
         ensures payload { OnOk result (StartsPayload (incoming_of self.old) (incoming_of self.new) rest.now) }
         ensures ended { self.new.ended ≡ self.old.ended }
         ensures receives { self.new.receives ≡ self.old.receives }
