@@ -60,7 +60,7 @@ fn go_on<G: Signer>(
         → let grounds = grounds_of settings (G.signature_of signer.now) (G.counts signer.now) draw in
         IsShaking grounds head text before next reader.old shake out.old.items
         → Comes result.step grounds head text before next (record { reader = reader.new; phase = result.phase })
-            out.new.items }
+        out.new.items }
     ensures fits { PhaseFits result.phase reader.new }
     ensures open { result.step ≡ OpeningStep.Waits → result.phase ≢ Phase.Over }
 {
@@ -86,7 +86,7 @@ fn begin<E: Entropy, G: Signer>(
         → let grounds = grounds_of settings.now (G.signature_of signer.now) (G.counts signer.now) draw in
         IsUnopened grounds head text before (E.draw entropy.old) reader.old out.old.items
         → Comes result.step grounds head text before (E.draw entropy.new)
-            (record { reader = reader.new; phase = result.phase }) out.new.items }
+        (record { reader = reader.new; phase = result.phase }) out.new.items }
     ensures known { IsKnown result.step reader.old.unread }
     ensures fits { PhaseFits result.phase reader.new }
     ensures open { result.step ≡ OpeningStep.Waits → result.phase ≢ Phase.Over }
@@ -121,7 +121,7 @@ fn take_piece<E: Entropy, G: Signer>(
         → let grounds = grounds_of settings.now (G.signature_of signer.now) (G.counts signer.now) draw in
         IsFed phase grounds head text before (E.draw entropy.old) reader.old out.old.items
         → Comes result.step grounds head text before (E.draw entropy.new)
-            (record { reader = reader.new; phase = result.phase }) out.new.items }
+        (record { reader = reader.new; phase = result.phase }) out.new.items }
     ensures known { phase ≡ Phase.Heading → IsKnown result.step reader.old.unread }
     ensures fits { PhaseFits result.phase reader.new }
     ensures open { result.step ≡ OpeningStep.Waits → result.phase ≢ Phase.Over }
