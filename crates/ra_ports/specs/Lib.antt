@@ -2,3 +2,8 @@ pub mod Causes
 pub mod Memory
 pub mod Texts
 pub mod Draws
+pub mod Moments
+pub mod Links
+pub mod LinkSteps
+pub mod LinkScripts
+pub mod Giving

@@ -11,7 +11,7 @@ use ra_base::Message;
 use std::marker::Model;
 
 /// Copies as much of `rest` as there is room for.
-fn copy_front(rest: &[u8], into: &mut [u8]) -> usize
+pub(crate) fn copy_front(rest: &[u8], into: &mut [u8]) -> usize
     ensures count { result ≡ min (length rest.now) (length into.old) }
     ensures copied { take result into.new ≡ take result rest.now }
 {

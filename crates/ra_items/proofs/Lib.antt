@@ -1,0 +1,6 @@
+pub mod Fronts
+pub mod HeadLemmas
+pub mod FrameItems
+pub mod ItemLemmas
+pub mod ReaderLemmas
+pub mod CallLemmas

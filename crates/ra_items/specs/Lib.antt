@@ -1,0 +1,4 @@
+pub mod Heads
+pub mod Items
+pub mod Readers
+pub mod Reads

@@ -1,0 +1,6 @@
+pub mod RunLemmas
+pub mod FindLemmas
+pub mod ShakeLemmas
+pub mod BeginLemmas
+pub mod PieceLemmas
+pub mod LawLemmas

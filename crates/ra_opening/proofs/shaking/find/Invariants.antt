@@ -1,0 +1,9 @@
+use Rattle.std.proofs.Common.{length}
+use Rattle.ra_opening.proofs.FindLemmas.{PassesOver}
+use Rattle.ra_opening.proofs.shaking.find.Given as goal
+
+abbrev pub invariant-frames : goal.invariant-frames
+invariant-frames l = PassesOver l.fn.reader l.reader
+
+abbrev pub decreases-frames : goal.decreases-frames
+decreases-frames l = length l.reader.unread

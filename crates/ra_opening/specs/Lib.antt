@@ -1,0 +1,5 @@
+pub mod Openings
+pub mod Stands
+pub mod Comes
+pub mod Begins
+pub mod Verdicts

@@ -1,0 +1,153 @@
+//! The frames of a handshake.
+ghost use Rattle.std.specs.Prelude.{◌≡◌, ◌≢◌, ◌<◌, ℕ, List, true, length};
+ghost use Rattle.ra_items.specs.Heads.{Head};
+ghost use Rattle.ra_shake.specs.declared.server.Stage.TheVariants as stages;
+ghost use Rattle.ra_shake.specs.declared.settings.ShakeSettings.{ShakeSettings};
+ghost use Rattle.ra_shake.specs.States.{ServerState};
+ghost use Rattle.ra_upgrade.specs.declared.request_head.HeadFault.{HeadFault};
+ghost use Rattle.ra_upgrade.specs.declared.request_head.Upgrade.{Upgrade};
+ghost use Rattle.ra_opening.specs.Openings.{Grounds, grounds_of};
+ghost use Rattle.ra_opening.specs.Stands.{IsShaking};
+ghost use Rattle.ra_opening.specs.Comes.{Finds, Answers, Refuses, Shakes, IsControl, found_of};
+
+use crate::ends::{OpeningEnd, OpeningStep};
+use crate::writing::{write_control, write_refusal};
+use ra_base::{Message, Reason, Request};
+use ra_frame::FrameFault;
+use ra_items::ItemReader;
+use ra_ports::Signer;
+use ra_shake::{ServerShake, ShakeStep};
+use std::alloc::Global;
+
+/// What the frames of a handshake come to, up to the first that counts.
+#[derive(Drop)]
+pub(crate) enum Found {
+    /// No frame is whole.
+    Waits,
+    /// A control frame with that body.
+    Control { body: Message },
+    /// A Disconnect.
+    Left,
+    TooLong { stated: u32 },
+    NoMemory,
+}
+
+/// What a message of the handshake comes to.
+#[derive(Drop)]
+pub(crate) enum Controlled {
+    /// It was answered, and the handshake waits for the next one.
+    Said,
+    Ask { request: Request },
+    /// It was refused, and that was written.
+    Refused { reason: Reason },
+    NoMemory,
+}
+
+fn found_of(fault: FrameFault) -> Found
+    ensures { result ≡ found_of fault }
+{
+    match fault {
+        FrameFault::TooLong { stated } => Found::TooLong { stated },
+        FrameFault::NoMemory => Found::NoMemory,
+    }
+}
+
+/// The first frame that counts in a handshake.
+fn find(alloc: Global, reader: &mut ItemReader) -> Found
+    requires { reader.old.behind_head ≡ true }
+    ensures behind { reader.new.behind_head ≡ true }
+    ensures shorter { IsControl result → length reader.new.unread < length reader.old.unread }
+    ensures found { (grounds : Grounds) (head : Head Upgrade HeadFault) (text before : List ℕ) (next : ℕ → List ℕ)
+        (shake : ServerState) (out : List ℕ)
+        → IsShaking grounds head text before next reader.old shake out
+        → Finds result grounds head text before next reader.new shake out }
+{
+    'frames: loop {
+        match reader.next_frame(alloc) {
+            Err(fault) => return found_of(fault),
+            Ok(None) => return Found::Waits,
+            Ok(Some(frame)) => {
+                if frame.kind == 2 {
+                    return Found::Control { body: frame.body };
+                }
+                if frame.kind == 5 {
+                    return Found::Left;
+                }
+            }
+        }
+    }
+}
+
+/// Judges a message of the handshake, and writes what it says.
+fn answer_control<G: Signer>(
+    alloc: Global,
+    shake: &mut ServerShake,
+    signer: &G,
+    body: &[u8],
+    out: &mut Vec<u8>,
+) -> Controlled
+    requires { shake.old.stage ≢ stages.Over }
+    ensures { Answers result (G.signature_of signer.now) (G.counts signer.now) shake.old shake.new body.now
+        out.old.items out.new.items }
+{
+    match shake.on_control(alloc, signer, body) {
+        Err(_) => Controlled::NoMemory,
+        Ok(ShakeStep::Ask { request }) => Controlled::Ask { request },
+        Ok(ShakeStep::Say { text }) => match write_control(out, text.as_slice()) {
+            Ok(()) => Controlled::Said,
+            Err(_) => Controlled::NoMemory,
+        },
+        Ok(ShakeStep::Refuse { reason }) => refuse(alloc, reason, out),
+    }
+}
+
+/// Writes a refusal.
+fn refuse(alloc: Global, reason: Reason, out: &mut Vec<u8>) -> Controlled
+    ensures { Refuses result reason out.old.items out.new.items }
+{
+    match write_refusal(alloc, reason, out) {
+        Ok(()) => Controlled::Refused { reason },
+        Err(_) => Controlled::NoMemory,
+    }
+}
+
+/// The frames of a handshake, as many as are whole.
+pub(crate) fn shake_on<G: Signer>(
+    alloc: Global,
+    reader: &mut ItemReader,
+    shake: &mut ServerShake,
+    signer: &G,
+    out: &mut Vec<u8>,
+) -> OpeningStep
+    requires behind { reader.old.behind_head ≡ true }
+    requires open { shake.old.stage ≢ stages.Over }
+    ensures made { (settings : ShakeSettings) (draw : ℕ → List ℕ) (head : Head Upgrade HeadFault)
+        (text before : List ℕ) (next : ℕ → List ℕ)
+        → let grounds = grounds_of settings (G.signature_of signer.now) (G.counts signer.now) draw in
+        IsShaking grounds head text before next reader.old shake.old out.old.items
+        → Shakes result grounds head text before next reader.new shake.new out.new.items }
+    ensures open { result ≡ OpeningStep.Waits → shake.new.stage ≢ stages.Over }
+    ensures behind { reader.new.behind_head ≡ true }
+{
+    'controls: loop {
+        let body = match find(alloc, reader) {
+            Found::Waits => return OpeningStep::Waits,
+            Found::Left => return ended(OpeningEnd::Left),
+            Found::TooLong { stated } => return ended(OpeningEnd::TooLong { stated }),
+            Found::NoMemory => return ended(OpeningEnd::NoMemory),
+            Found::Control { body } => body,
+        };
+        match answer_control(alloc, shake, signer, body.as_slice(), out) {
+            Controlled::Said => {}
+            Controlled::Ask { request } => return OpeningStep::Ask { request },
+            Controlled::Refused { reason } => return ended(OpeningEnd::Refused { reason }),
+            Controlled::NoMemory => return ended(OpeningEnd::NoMemory),
+        }
+    }
+}
+
+pub(crate) fn ended(end: OpeningEnd) -> OpeningStep
+    ensures { result ≡ OpeningStep.End end }
+{
+    OpeningStep::End { end }
+}
