@@ -1,5 +1,5 @@
 -- Ids in order: one more at the end, and one out of them.
-use Rattle.std.proofs.Common.{◌≡◌, ℕ, ◌+◌, ◌<◌, List, [], ◌∷◌, ◌++◌, Bool, false, not, refl, sym, ap, subst, arith, inl, inr}
+use Rattle.std.proofs.Common.{◌≡◌, ℕ, ◌+◌, ◌<◌, List, [], ◌∷◌, ◌++◌, Bool, true, false, not, refl, sym, ap, subst, arith, inl, inr}
 use Rattle.std.proofs.lemmas.Bool.{cases_Bool, cases_order, cond_both, eqb-true, eq-eqb, ne_eqb}
 use Rattle.std.specs.Prelude.{◌==◌}
 use Rattle.std.specs.List.{AllByRecursion, filter, list_any}
@@ -127,3 +127,11 @@ ids_front (x ∷ xs) e ys h =
 
 pub ids_before : {X : Type 0} (xs : List (ℕ × X)) (e : ℕ × X) (ys all : List (ℕ × X)) → xs ++ e ∷ ys ≡ all → Ascending (keys_of all) → AreIds e.0 (keys_of xs)
 ids_before xs e ys all same h = ids_front xs e ys (subst (λ w. Ascending (keys_of w)) (sym same) h)
+
+-- an id that is among them is below what all are below
+pub in_below : (n i : ℕ) (ks : List ℕ) → AllByRecursion (λ id. id < n) ks → is_in i ks ≡ true → i < n
+in_below n i [] h is = cc
+in_below n i (k ∷ ks) h is = elim (cases_Bool (k == i)) [
+  | inl t ↦ let same : k ≡ i = eqb-true k i t in omega (arith, h.0)
+  | inr f ↦ in_below n i ks h.1 (rw f at is)
+]

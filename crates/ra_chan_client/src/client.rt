@@ -1,5 +1,5 @@
 //! The channel client: what it holds, and its copy.
-ghost use Rattle.std.specs.Prelude.{◌≡◌, ◌≤◌, ◌<◌, ◌^◌, IfOk, IfSome, IfNone};
+ghost use Rattle.std.specs.Prelude.{◌≡◌, ◌≤◌, ◌<◌, ◌^◌, true, IfOk, IfSome, IfNone};
 ghost use Rattle.ra_ipc.specs.ChannelClients.{new_client, is_in};
 ghost use Rattle.ra_ipc.specs.View.{id_of};
 
@@ -73,14 +73,16 @@ impl ChannelClient {
 
     /// Whether a call with this id is unsettled.
     pub fn has_call(&self, id: i32) -> bool
-        ensures { result ≡ is_in (id_of id) self.now.calls }
+        ensures open { result ≡ is_in (id_of id) self.now.calls }
+        ensures small { result ≡ true → id_of id < 2 ^ 31 }
     {
         ids::has(&self.calls, id.cast_unsigned())
     }
 
     /// Whether a listener with this id lives.
     pub fn has_listener(&self, id: i32) -> bool
-        ensures { result ≡ is_in (id_of id) self.now.listeners }
+        ensures open { result ≡ is_in (id_of id) self.now.listeners }
+        ensures small { result ≡ true → id_of id < 2 ^ 31 }
     {
         ids::has(&self.listeners, id.cast_unsigned())
     }

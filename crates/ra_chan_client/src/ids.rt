@@ -1,5 +1,5 @@
 //! The ids of unsettled calls, or of living listeners.
-ghost use Rattle.std.specs.Prelude.{◌≡◌, ◌++◌, ◌∷◌, [], ℕ, OnOk, OnErr, ◌+◌};
+ghost use Rattle.std.specs.Prelude.{◌≡◌, ◌++◌, ◌∷◌, [], ℕ, true, OnOk, OnErr, ◌+◌, ◌<◌};
 ghost use Rattle.std.specs.Bool.{OnFalse};
 ghost use Rattle.ra_ipc.specs.ChannelClients.{is_in, without};
 ghost use Rattle.ra_chan_client.specs.Held.{AreIds};
@@ -29,7 +29,8 @@ pub fn take(ids: &mut BTreeSet<u32>, id: u32) -> bool
 }
 
 pub fn has(ids: &BTreeSet<u32>, id: u32) -> bool
-    ensures { result ≡ is_in id ids.now.keys }
+    ensures found { result ≡ is_in id ids.now.keys }
+    ensures below { (n : ℕ) → AreIds n ids.now.keys → result ≡ true → id < n }
 {
     ids.contains(&id)
 }

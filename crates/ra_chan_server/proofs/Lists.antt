@@ -1,6 +1,7 @@
 -- Tests, filters and changes of lists, and of lists of requests that have their own ids.
 use Rattle.std.proofs.Common.{◌≡◌, ℕ, zero, suc, ◌+◌, ◌<◌, ◌^◌, length, take, get_or, is_some, option_map, List, [], ◌∷◌, ◌++◌, map, Bool, true, false, not, Option, Some, None, refl, sym, ap, ◌∙◌, arith, inl, inr}
 use Rattle.std.proofs.lemmas.Bool.{cases_Bool, cond_both, eqb-true, eqb-false, ne_eqb, eq-eqb, or_parts, true≢false}
+use Rattle.std.proofs.lemmas.Bool.Decides.{nat_tests}
 use Rattle.std.proofs.lemmas.List.{take_more, map-append}
 use Rattle.std.proofs.lemmas.List.Elements.{filter_map-append}
 use Rattle.std.specs.Prelude.{◌==◌}
@@ -33,6 +34,13 @@ all_map P f (x ∷ xs) h = (h.0, all_map P f xs h.1)
 pub all_append : {X : Type 0} (P : X → Type 0) (xs ys : List X) → AllByRecursion P (xs ++ ys) → AllByRecursion P xs × AllByRecursion P ys
 all_append P [] ys h = (tt, h)
 all_append P (x ∷ xs) ys h = let rest = all_append P xs ys h.1 in ((h.0, rest.0), rest.1)
+
+pub any_filtered : {X Y : Type 0} (f : X → Y) (p : X → Bool) (xs : List X) → not (length (map f (filter p xs)) == 0) ≡ list_any p xs
+any_filtered f p [] = refl
+any_filtered f p (x ∷ xs) = elim (cases_Bool (p x)) [ inl t ↦ rw t (some_left (length (map f (filter p xs)))) | inr g ↦ rw g (any_filtered f p xs) ]
+  where
+  some_left : (n : ℕ) → not (suc n == 0) ≡ true
+  some_left n = grind (arith, nat_tests)
 
 -- ---- lists by their indices
 

@@ -74,10 +74,11 @@ impl Requests {
     }
 
     /// Whether the id is that of a call that was handed out.
-    fn was_handed(&self, id: u32) -> bool
+    pub fn was_handed(&self, id: u32) -> bool
         ensures found { result ≡ list_any (is_handed id) self.now }
         ensures fits { OnTrue result (id < 2 ^ 31) }
         ensures one { OnTrue result (filter (λ a. not (holds id a)) self.now ≡ filter (λ a. not (is_handed id a)) self.now) }
+        ensures no { OnFalse result (self.now ≡ filter (λ a. not (is_handed id a)) self.now) }
     {
         match self.find(id) {
             Some(request) => !request::is_here(request),

@@ -1,6 +1,7 @@
 //! The channel server: what it holds, its copy, and its calls.
 ghost use Rattle.std.specs.Prelude.{◌≡◌, ◌<◌, ◌^◌, [], true, false, Some, None, if◌then◌else◌, map, option_map, IfOk, IfErr, IfSome, OnOk, OnErr};
 ghost use Rattle.std.specs.List.{AllByRecursion, list_any};
+ghost use Rattle.std.specs.Bool.{OnTrue};
 ghost use Rattle.std.specs.Str.{bytes_eq};
 ghost use Rattle.ra_values.specs.View.{tree};
 ghost use Rattle.ra_values.specs.Spelling.{Fits, levels};
@@ -8,7 +9,7 @@ ghost use Rattle.ra_ipc.specs.Messages.{is_request, response};
 ghost use Rattle.ra_ipc.specs.Packets.{MessageFits, reply_body};
 ghost use Rattle.ra_ipc.specs.View.{message, id_of, reply};
 ghost use Rattle.ra_ipc.specs.ChannelPackets.{active_id, after_request, requested_call};
-ghost use Rattle.ra_ipc.specs.ChannelServers.{is_active, promised, promised_call, listened, registered, registered_calls, has_call, completed, fires, ticked, timeout_answers};
+ghost use Rattle.ra_ipc.specs.ChannelServers.{is_active, promised, promised_call, listened, registered, registered_calls, has_call, completed, fires, is_timed_out, ticked, timeout_answers};
 ghost use Rattle.ra_chan_server.specs.Requests.{CallFits};
 ghost use Rattle.ra_chan_server.specs.View.{call_of, IsActiveId};
 
@@ -236,6 +237,32 @@ impl ChannelServer {
             return Err(ServerFault::NoSuchCall { id });
         }
         Ok(answered(id, answer))
+    }
+
+    /// Whether a call of this id was handed out and is not yet completed.
+    pub fn has_call(&self, id: i32) -> bool
+        ensures open { result ≡ has_call (id_of id) self.now }
+        ensures id { OnTrue result (id_of id < 2 ^ 31) }
+    {
+        self.requests.was_handed(id.cast_unsigned())
+    }
+
+    /// The call of this id is active no more, without an answer, where it was handed out and is not yet completed; else nothing is
+    /// done. It takes no memory.
+    pub fn end_call(&mut self, id: i32)
+        ensures { self.new ≡ completed self.old (id_of id) }
+    {
+        if self.requests.was_handed(id.cast_unsigned()) {
+            self.requests.take(id.cast_unsigned());
+        }
+    }
+
+    /// Whether a tick at this moment finds a call or a listen that waited too long. It is refused for want of memory alone.
+    pub fn has_late(&self, alloc: Global, now: u64) -> Result<bool, NoMemory>
+        ensures { IfOk result (λ late. late ≡ list_any (is_timed_out now) self.now.active) }
+    {
+        let ids = self.requests.ids_late(alloc, now)?;
+        Ok(!ids.is_empty())
     }
 
     /// An EventFire for each listener of this event, in the order of their listens. It needs a body that fits, and is refused for

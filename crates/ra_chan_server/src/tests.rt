@@ -104,10 +104,12 @@ fn tick(alloc: Global, server: &mut ChannelServer, now: u64) -> Result<Vec<i32>,
 fn a_call_waits_a_second_for_its_channel(rt: HostRuntime) -> Result<(), Fail> {
     let mut server = ChannelServer::new(rt.alloc());
     assert_eq!(rt; hear(rt.alloc(), &mut server, CALL_0, 0)?, None);
+    assert!(rt; !server.has_late(rt.alloc(), 999)?);
     assert_eq!(rt;
         tick(rt.alloc(), &mut server, 999)?.as_slice(),
         [].as_slice()
     );
+    assert!(rt; server.has_late(rt.alloc(), 1000)?);
     assert_eq!(rt;
         tick(rt.alloc(), &mut server, 1000)?.as_slice(),
         [0].as_slice()

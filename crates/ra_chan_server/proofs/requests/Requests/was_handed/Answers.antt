@@ -1,5 +1,5 @@
-use Rattle.std.proofs.Common.{◌<◌, ◌^◌, not, sym, ap, ◌∙◌}
-use Rattle.std.proofs.lemmas.Bool.{OnTrue_from}
+use Rattle.std.proofs.Common.{◌<◌, ◌^◌, not, refl, sym, ap, ◌∙◌}
+use Rattle.std.proofs.lemmas.Bool.{OnTrue_from, OnFalse_from}
 use Rattle.ra_ipc.specs.ChannelServers.{is_handed}
 use Rattle.ra_chan_server.specs.Requests.{is_here}
 use Rattle.ra_chan_server.specs.View.{active_of}
@@ -21,3 +21,11 @@ returns-in-Some-clause-one c =
 
 pub returns-in-None-clause-found : goal.returns-in-None-clause-found
 returns-in-None-clause-found c = sym (not_found_tells is_handed (λ a. not (is_here a)) handed_kind c.args.id c.args.self.now c.in-None.ensures.found).any
+
+pub returns-in-Some-clause-no : goal.returns-in-Some-clause-no
+returns-in-Some-clause-no c =
+    let tells = found_tells is_handed (λ a. not (is_here a)) handed_kind c.args.id c.args.self.now (active_of c.in-Some.request.now) c.find.ensures.own c.in-Some.ensures.found in
+    OnFalse_from (not c.is_here.result) _ (λ f. sym (tells.stays (sym (ap not c.is_here.ensures) ∙ f)))
+
+pub returns-in-None-clause-no : goal.returns-in-None-clause-no
+returns-in-None-clause-no c = sym ((not_found_tells is_handed (λ a. not (is_here a)) handed_kind c.args.id c.args.self.now c.in-None.ensures.found).stays refl)
