@@ -1,0 +1,12 @@
+pub mod Sessions
+pub mod Saying
+pub mod Hearing
+pub mod SessionCalls
+pub mod Turns
+pub mod SessionRefusals
+pub mod TurnRefusals
+pub mod SessionStates
+pub mod Faults
+pub mod View
+pub mod Coming
+pub mod Moments
