@@ -1,0 +1,7 @@
+use Rattle.ra_dial.proofs.LinkRows.{lost}
+use Rattle.ra_dial.proofs.dialer.Dialer.lose.Goals as goal
+
+pub returns : goal.returns
+returns c =
+    let becomes = rw c.epoch-epoch.ensures at c.lose.ensures.stands in
+    rw (← c.self.view_is, c.rest_or_drop.ensures, c.clear.ensures, c.millis.ensures.value, c.millis-2.ensures.value) (lost _ c.args.drops c.args.now _ becomes)

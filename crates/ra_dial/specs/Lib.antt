@@ -1,0 +1,12 @@
+pub mod ShakingStates
+pub mod ShortTexts
+pub mod Queues
+pub mod Dialers
+pub mod Clients
+pub mod Handshakes
+pub mod Acts
+pub mod Attempts
+pub mod Links
+pub mod Table
+pub mod DialerStates
+pub mod View
