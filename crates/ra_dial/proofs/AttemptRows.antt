@@ -1,5 +1,5 @@
 -- The rows of attempts, at what a dialer keeps.
-use Rattle.std.proofs.Common.{◌≡◌, ℕ, ◌+◌, ◌-◌, Bool, true, false, cond, List, [], ◌++◌, refl, ap, sym, ◌∙◌, subst}
+use Rattle.std.proofs.Common.{◌≡◌, ℕ, ◌+◌, ◌-◌, Bool, true, false, List, [], ◌++◌, refl, ap, sym, subst}
 use Rattle.std.specs.Prelude.{nat_le, nat_lt}
 use Rattle.std.proofs.lemmas.Bool.{cond-true, cond-false}
 use Rattle.ra_model.specs.Endpoints.{Endpoint}
@@ -7,9 +7,8 @@ use Rattle.ra_session.specs.Sessions.{Session}
 use Rattle.ra_session.specs.SessionStates.{SessionState, StandsForSession}
 use Rattle.ra_dial.specs.declared.stage.Stage.TheVariants as stages
 use Rattle.ra_dial.specs.Clients.{request_of, new_shaking}
-use Rattle.ra_dial.specs.Dialers.{Dialer, epoch}
 use Rattle.ra_dial.specs.Acts.{Act, quiet, rest_until, connect}
-use Rattle.ra_dial.specs.Attempts.{Step, wait_before, next_attempt, patience, rest_or_drop, fails, waits_until, waits_since, begins}
+use Rattle.ra_dial.specs.Attempts.{wait_before, next_attempt, patience, rest_or_drop, fails, waits_until, waits_since, begins}
 use Rattle.ra_dial.specs.DialerStates.{DialerState, dialer_of, StandsForDialer, Steps}
 use Rattle.ra_dial.proofs.Standing.{by_rows, same_rows}
 

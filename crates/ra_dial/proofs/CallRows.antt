@@ -1,13 +1,11 @@
 -- The calls of a dialer beside its events, at what it keeps.
-use Rattle.std.proofs.Common.{◌≡◌, ◌≢◌, ℕ, Bool, true, false, not, Option, Some, None, List, [], ◌∷◌, ◌++◌, refl, ap, sym, ◌∙◌, subst, length, take, drop}
+use Rattle.std.proofs.Common.{◌≡◌, ℕ, Bool, true, false, Option, List, [], ◌∷◌, ◌++◌, refl, ap, sym, ◌∙◌, subst, length}
 use Rattle.std.proofs.Math.Seq.{take-append_seam, drop-append_seam}
 use Rattle.std.specs.Prelude.{Result, Ok, Err, OnOk, IsTrue, ◌↔◌}
 use Rattle.std.proofs.lemmas.Bool.{false≢true}
-use Rattle.ra_model.specs.Endpoints.{shown}
 use Rattle.ra_proto.specs.Shown.{shown_of}
 use Rattle.ra_session.proofs.TurnSteps.{shown_is}
 use Rattle.ra_session.specs.Sessions.{Session}
-use Rattle.ra_session.specs.SessionCalls.{take_out}
 use Rattle.ra_session.specs.SessionRefusals.{Refusal, Refuses}
 use Rattle.ra_session.specs.SessionStates.{SessionState, StandsForSession, OfEachSession, SessionBecomes}
 use Rattle.ra_session.specs.declared.values.SessionFault.{SessionFault}

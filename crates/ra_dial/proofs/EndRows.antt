@@ -1,13 +1,12 @@
 -- The rows of ticks and of leaving, at what a dialer keeps.
-use Rattle.std.proofs.Common.{◌≡◌, ◌≢◌, ℕ, ◌+◌, Bool, true, false, Option, Some, None, List, ◌++◌, refl, ap, sym, ◌∙◌, subst}
+use Rattle.std.proofs.Common.{◌≡◌, ◌≢◌, ℕ, ◌+◌, Bool, true, false, Option, Some, None, List, ◌++◌, refl, ap, sym, subst}
 use Rattle.std.proofs.lemmas.Bool.{cond-true, cond-false}
 use Rattle.ra_model.specs.Endpoints.{shown}
 use Rattle.ra_model.specs.Calls.{leave}
 use Rattle.ra_session.specs.Moments.{timeout_of}
-use Rattle.ra_session.specs.Sessions.{Session}
 use Rattle.ra_session.specs.SessionCalls.{leave_session, tick_session}
 use Rattle.ra_session.specs.SessionRefusals.{Refusal, IsRefusal, tick_refusal, leave_refusal}
-use Rattle.ra_session.specs.SessionStates.{SessionState, StandsForSession, OfEachSession, SessionBecomes}
+use Rattle.ra_session.specs.SessionStates.{SessionState, OfEachSession, SessionBecomes}
 use Rattle.ra_session.specs.declared.values.SessionFault.{SessionFault}
 use Rattle.ra_session.specs.declared.values.SessionFault.TheVariants as faults
 use Rattle.ra_dial.specs.declared.values.DialEnd.TheVariants as dial_ends

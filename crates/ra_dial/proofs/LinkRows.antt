@@ -1,17 +1,15 @@
 -- The rows of links, at what a dialer keeps.
-use Rattle.std.proofs.Common.{◌≡◌, ◌≢◌, ℕ, ◌+◌, Bool, true, false, Option, Some, None, List, [], ◌++◌, refl, ap, sym, ◌∙◌, subst}
-use Rattle.std.specs.Prelude.{Result, Ok, Err, option_map, IfOk, OnOk}
+use Rattle.std.proofs.Common.{◌≡◌, ◌≢◌, ℕ, Bool, true, Option, Some, None, List, [], ◌++◌, refl, ap, sym, ◌∙◌, subst}
+use Rattle.std.specs.Prelude.{Result, Ok, Err, IfOk, OnOk}
 use Rattle.ra_base.specs.declared.memory.NoMemory.{NoMemory}
 use Rattle.ra_ipc.specs.View.{id_of}
 use Rattle.ra_base.specs.declared.key.Cause.{Cause}
-use Rattle.ra_session.specs.Hearing.{Happening}
 use Rattle.ra_session.specs.Sessions.{Session}
-use Rattle.ra_session.specs.SessionCalls.{attach, feed_session, lose_session, tick_session, leave_session}
-use Rattle.ra_session.specs.SessionRefusals.{Refusal, ended, stale, no_link, too_long, bad_ipc, too_large, ids_spent, no_such_call, wrong_kind, bad_message, Refuses, IsRefusal, attach_refusal, feed_refusal}
+use Rattle.ra_session.specs.SessionCalls.{attach, feed_session, lose_session}
+use Rattle.ra_session.specs.SessionRefusals.{Refusal, ended, stale, no_link, too_long, bad_ipc, too_large, ids_spent, no_such_call, wrong_kind, bad_message, IsRefusal, attach_refusal, feed_refusal}
 use Rattle.ra_session.specs.SessionStates.{SessionState, StandsForSession, OfEachSession, SessionBecomes}
 use Rattle.ra_session.specs.Turns.{TurnAnswer, turn, turn_answer}
 use Rattle.ra_session.specs.TurnRefusals.{turn_refusal, TurnLeaves}
-use Rattle.ra_session.specs.View.{turn_of, happening_of}
 use Rattle.ra_session.specs.declared.values.SessionFault.{SessionFault}
 use Rattle.ra_session.specs.declared.values.SessionFault.TheVariants as faults
 use Rattle.ra_dial.specs.declared.stage.Stage.TheVariants as stages
@@ -19,7 +17,7 @@ use Rattle.ra_dial.specs.Dialers.{Dialer, epoch}
 use Rattle.ra_session.specs.declared.values.Turn.{Turn}
 use Rattle.ra_dial.specs.declared.values.DialAct.{DialAct}
 use Rattle.ra_dial.specs.Acts.{Act, nothing, quiet, act_of}
-use Rattle.ra_dial.specs.Attempts.{Step, rest_or_drop, fails}
+use Rattle.ra_dial.specs.Attempts.{rest_or_drop, fails}
 use Rattle.ra_dial.specs.Links.{loses, next_epoch, attaches, attaches_unless, feeds_attached, feeds_unless, refused_turn, after_refusal, turns, turns_unless, after_turn}
 use Rattle.ra_dial.specs.DialerStates.{DialerState, dialer_of, StandsForDialer, OfEachDialer, DialerBecomes, Steps}
 use Rattle.ra_dial.proofs.Standing.{of_dialers, by_rows, same_rows, after}

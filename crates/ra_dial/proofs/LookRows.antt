@@ -1,5 +1,5 @@
 -- The rows of a handshake's steps, at what a dialer keeps.
-use Rattle.std.proofs.Common.{◌≡◌, ℕ, ◌+◌, Bool, true, false, Option, Some, None, List, ◌++◌, refl, ap, sym, ◌∙◌, subst, append_assoc}
+use Rattle.std.proofs.Common.{◌≡◌, ℕ, ◌+◌, true, false, None, List, ◌++◌, refl, ap, sym, ◌∙◌, subst, append_assoc}
 use Rattle.std.specs.Prelude.{Result, Ok, Err, IfOk}
 use Rattle.std.proofs.lemmas.Bool.{false≢true}
 use Rattle.ra_dial.specs.declared.stage.Stage.{Stage}
@@ -9,13 +9,13 @@ use Rattle.ra_dial.specs.declared.values.DialAct.{DialAct}
 use Rattle.ra_dial.specs.declared.handshake.Handled.{Handled}
 use Rattle.ra_dial.specs.declared.handshake.Handled.TheVariants as handled
 use Rattle.ra_dial.specs.ShakingStates.{ShakingState}
-use Rattle.ra_dial.specs.Handshakes.{Head, IsHeadOf, Look, is_open, goes_on, fails as spoils, refuses, accepts, looked_at, taken_by, Came, Handles, look_of, kept_by}
+use Rattle.ra_dial.specs.Handshakes.{Head, IsHeadOf, Look, looked_at, taken_by, Handles, look_of, kept_by}
 use Rattle.ra_dial.specs.Dialers.{Dialer}
 use Rattle.ra_dial.specs.Acts.{Act, act_of, nothing, quiet}
 use Rattle.ra_dial.specs.Attempts.{Step, finishes, fails}
 use Rattle.ra_dial.specs.Links.{after_look, attaches, shakes, turns}
 use Rattle.ra_dial.specs.Table.{on_frame, is_shaking, is_attached}
-use Rattle.ra_dial.specs.DialerStates.{DialerState, dialer_of, StandsForDialer, OfEachDialer, DialerBecomes, Steps, StepsByHead}
+use Rattle.ra_dial.specs.DialerStates.{DialerState, dialer_of, StandsForDialer, DialerBecomes, Steps, StepsByHead}
 use Rattle.ra_dial.proofs.Standing.{of_dialers, by_rows, same_rows, after, at_stage}
 use Rattle.ra_dial.proofs.AttemptRows.{told}
 

@@ -1,5 +1,5 @@
 -- A dialer's first moments, its loss and its attached session, computed.
-use Rattle.std.proofs.Common.{◌≡◌, ℕ, zero, suc, true, false, Option, Some, None, List, [], ◌∷◌, ◌++◌, refl}
+use Rattle.std.proofs.Common.{◌≡◌, ℕ, true, None, List, [], ◌∷◌, refl}
 use Rattle.std.specs.Prelude.{codes, Ok, Err}
 use Rattle.std.specs.Str.{is_utf8, chars}
 use lib.Utf8.{encode}
@@ -15,30 +15,28 @@ use Rattle.ra_model.specs.Taking.{take_frame, delivery}
 use Rattle.ra_upgrade.specs.declared.answer_head.AnswerFault.TheVariants as answer_faults
 use Rattle.ra_values.specs.Number.{number_at, later_at}
 use Rattle.ra_values.specs.ReadValue.{prefixed_at, text_at, items_at, content_at, value_at}
-use Rattle.ra_values.specs.Tree.{Tree, text}
+use Rattle.ra_values.specs.Tree.{text}
 use Rattle.ra_values.specs.ValueBytes.{number_bytes, value_bytes, items_bytes}
 use Rattle.ra_ipc.specs.Messages.{initialize}
 use Rattle.ra_ipc.specs.Packets.{message_bytes}
 use Rattle.ra_ipc.specs.ReadMessage.{message_at, context_at, after_header}
 use Rattle.ra_proto.specs.SayAll.{say_all}
-use Rattle.ra_session.specs.Saying.{dialling}
 use Rattle.ra_session.specs.Hearing.{heard}
-use Rattle.ra_session.specs.SessionCalls.{attach, feed_session, take_out, lose_session, leave_session, tick_session}
-use Rattle.ra_session.specs.SessionRefusals.{feed_refusal, tick_refusal, leave_refusal}
+use Rattle.ra_session.specs.SessionCalls.{attach, feed_session, take_out, lose_session, tick_session}
+use Rattle.ra_session.specs.SessionRefusals.{feed_refusal, tick_refusal}
 use Rattle.ra_session.specs.Turns.{take_in, take_turn, turn, taken_answer, turn_answer}
 use Rattle.ra_session.specs.TurnRefusals.{taken_refusal, turn_refusal}
 use Rattle.ra_dial.specs.declared.values.DialEnd.TheVariants as dial_ends
 use Rattle.ra_dial.specs.declared.values.DialEvent.{DialEvent}
 use Rattle.ra_dial.specs.declared.values.DialEvent.TheVariants as events
 use Rattle.ra_dial.specs.declared.stage.Stage.TheVariants as stages
-use Rattle.ra_dial.specs.Clients.{Settings, new_shaking}
+use Rattle.ra_dial.specs.Clients.{Settings}
 use Rattle.ra_dial.specs.Handshakes.{Head}
 use Rattle.ra_dial.specs.Dialers.{Dialer}
 use Rattle.ra_dial.specs.Acts.{Act, nothing, quiet, rest_until, connect, drop_link, ends}
 use Rattle.ra_dial.specs.Attempts.{fails, waits_until, waits_since, begins}
-use Rattle.ra_dial.specs.Links.{loses, feeds_attached, turns, ticks, leaves, shakes}
+use Rattle.ra_dial.specs.Links.{loses, feeds_attached, turns, ticks, shakes}
 use Rattle.ra_dial.specs.Table.{new_dialer, on_event, step}
-use Rattle.ra_upgrade.specs.RequestTexts.{request_text}
 
 abbrev settings : Settings
 settings = record {

@@ -1,5 +1,5 @@
 -- The texts of a handshake are short enough for a frame.
-use Rattle.std.proofs.Common.{◌≡◌, ℕ, ◌+◌, ◌*◌, ◌≤◌, Bool, true, false, Option, Some, None, List, ◌++◌, sym, subst, length, arith}
+use Rattle.std.proofs.Common.{◌≡◌, ℕ, ◌≤◌, false, Option, Some, None, List, ◌++◌, sym, subst, length, arith}
 use Rattle.std.specs.Prelude.{⊤, codes}
 use Rattle.std.proofs.lemmas.Bool.{cond_both}
 use Rattle.serde_json.specs.Data.{Data}
@@ -12,7 +12,7 @@ use Rattle.ra_sign.proofs.SignatureLemmas.{signature_short}
 use Rattle.ra_shake.specs.declared.client.ClientStep.{ClientStep}
 use Rattle.ra_shake.specs.declared.client.ClientStep.TheVariants.{Say, Done, Refused, Unexpected}
 use Rattle.ra_shake.specs.States.{ClientState, secret_or_zeros}
-use Rattle.ra_shake.specs.Texts.{auth_text, connection_text}
+use Rattle.ra_shake.specs.Texts.{auth_text}
 use Rattle.ra_shake.specs.Reading.{reading, text_of_member, has_type}
 use Rattle.ra_shake.specs.Client.{kind_number, with_reason, refusal, is_accepted, answer_to, on_signed, on_answer, client_step}
 use Rattle.ra_shake.proofs.LengthLemmas.{auth_short, connection_short}

@@ -1,8 +1,7 @@
 -- What a dialer in memory stands for, through the rows of its table.
-use Rattle.std.proofs.Common.{◌≡◌, ℕ, ◌<◌, ◌-◌, Bool, true, false, List, refl, ap, sym, ◌∙◌, subst, nat_lt}
-use Rattle.std.proofs.lemmas.Bool.{cond-true, cond-false}
+use Rattle.std.proofs.Common.{◌≡◌, ℕ, ap, sym, ◌∙◌, subst}
 use Rattle.ra_session.specs.Sessions.{Session}
-use Rattle.ra_session.specs.SessionStates.{SessionState, StandsForSession, SessionBecomes}
+use Rattle.ra_session.specs.SessionStates.{StandsForSession}
 use Rattle.ra_dial.specs.declared.stage.Stage.{Stage}
 use Rattle.ra_dial.specs.Dialers.{Dialer}
 use Rattle.ra_dial.specs.Acts.{Act}

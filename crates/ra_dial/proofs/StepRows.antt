@@ -1,11 +1,10 @@
 -- A step as a whole: what it follows of the table, and how many draws it takes.
-use Rattle.std.proofs.Common.{◌≡◌, ℕ, ◌+◌, Bool, true, false, cond, List, refl, ap, sym, ◌∙◌, subst, not, ◌&&◌}
+use Rattle.std.proofs.Common.{◌≡◌, ℕ, Bool, true, false, List, refl, ap, sym, ◌∙◌, subst, not, ◌&&◌}
 use Rattle.std.specs.Prelude.{Result, Ok, Err, None, IfOk}
 use Rattle.std.proofs.lemmas.Bool.{cond-true, cond-false, false≢true}
 use Rattle.ra_dial.specs.declared.stage.Stage.{Stage}
 use Rattle.ra_dial.specs.declared.stage.Stage.TheVariants as stages
 use Rattle.ra_dial.specs.declared.values.DialEvent.{DialEvent}
-use Rattle.ra_dial.specs.declared.values.DialEvent.TheVariants as events
 use Rattle.ra_dial.specs.declared.values.DialEnd.{DialEnd}
 use Rattle.ra_dial.specs.declared.values.DialEnd.TheVariants as dial_ends
 use Rattle.ra_dial.specs.declared.values.DialAct.{DialAct}

@@ -1,5 +1,5 @@
 -- The attempts of a dialer: how it waits, and how an attempt begins and fails.
-use Rattle.std.specs.Prelude.{ℕ, ◌+◌, ◌-◌, ◌^◌, ◌==◌, min, Bool, true, false, nat_le, nat_lt, List, [], ◌++◌, if◌then◌else◌}
+use Rattle.std.specs.Prelude.{ℕ, ◌+◌, ◌-◌, ◌^◌, ◌==◌, min, Bool, false, nat_le, nat_lt, List, [], ◌++◌, if◌then◌else◌}
 use Rattle.ra_dial.specs.declared.values.DialEnd.{DialEnd}
 use Rattle.ra_dial.specs.declared.stage.Stage.{Stage}
 use Rattle.ra_dial.specs.declared.stage.Stage.TheVariants as stages

@@ -1,5 +1,5 @@
 -- Who dials, and with what each of its handshakes begins.
-use Rattle.std.specs.Prelude.{◌≢◌, ℕ, ◌≤◌, Bool, false, List, [], Option, Some, None, length, IsUtf8}
+use Rattle.std.specs.Prelude.{◌≢◌, ℕ, ◌≤◌, Bool, false, List, [], Some, None, length, IsUtf8}
 use Rattle.ra_base.specs.declared.key.Key.{Key}
 use Rattle.ra_base.specs.declared.kind.Kind.TheVariants.{Tunnel}
 use Rattle.ra_upgrade.specs.RequestTexts.{request_text}

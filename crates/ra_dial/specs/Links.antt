@@ -1,11 +1,10 @@
 -- A dialer on a link: what it does on its handshake's steps, and while its session is attached.
-use Rattle.std.specs.Prelude.{ℕ, ◌+◌, ◌^◌, ◌-◌, min, Bool, true, false, List, [], ◌++◌, Option, Some, None, if◌then◌else◌}
+use Rattle.std.specs.Prelude.{ℕ, ◌+◌, ◌^◌, ◌-◌, min, Bool, true, List, [], ◌++◌, Option, Some, None, if◌then◌else◌}
 use Rattle.ra_base.specs.declared.key.Cause.{Cause}
 use Rattle.ra_base.specs.declared.key.Cause.TheVariants.{BadIpc}
 use Rattle.ra_model.specs.Endpoints.{shown}
 use Rattle.ra_model.specs.Calls.{leave}
 use Rattle.ra_session.specs.Hearing.{Happening, work, host, call_settled, event_fired}
-use Rattle.ra_session.specs.Sessions.{Session}
 use Rattle.ra_session.specs.SessionCalls.{attach, feed_session, lose_session, leave_session, tick_session}
 use Rattle.ra_session.specs.Moments.{timeout_of}
 use Rattle.ra_session.specs.SessionRefusals.{Refusal, ended, stale, no_link, too_long, bad_ipc, too_large, ids_spent, no_such_call, wrong_kind, attach_refusal, feed_refusal, tick_refusal, leave_refusal}

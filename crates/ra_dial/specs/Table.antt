@@ -1,11 +1,10 @@
 -- What a dialer does at each event, by how far it is and by the moment.
-use Rattle.std.specs.Prelude.{ℕ, Bool, true, false, not, ◌&&◌, List, [], ◌∷◌, ◌++◌, take, drop, Option, Some, None, if◌then◌else◌}
+use Rattle.std.specs.Prelude.{ℕ, Bool, true, false, not, ◌&&◌, List, [], ◌∷◌, ◌++◌, take, drop, Option, None, if◌then◌else◌}
 use Rattle.ra_model.specs.Endpoints.{shown}
 use Rattle.ra_values.specs.Tree.{Tree}
 use Rattle.ra_session.specs.Sessions.{Session}
 use Rattle.ra_session.specs.Saying.{dialling}
 use Rattle.ra_session.specs.SessionCalls.{take_out}
-use Rattle.ra_dial.specs.declared.values.DialEnd.{DialEnd}
 use Rattle.ra_dial.specs.declared.values.DialEnd.TheVariants as dial_ends
 use Rattle.ra_dial.specs.declared.values.DialEvent.{DialEvent}
 use Rattle.ra_dial.specs.declared.values.DialEvent.TheVariants as events

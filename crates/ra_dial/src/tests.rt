@@ -364,3 +364,16 @@ fn calls_and_listens(rt: HostRuntime) -> Result<(), Fail> {
     assert_eq!(rt; listened(rt.alloc(), &mut client.dialer, now)?, (1, true));
     Ok(())
 }
+
+/// Whether an extension host may say a message.
+fn said(alloc: Global) -> Result<bool, Fail> {
+    let mut client = make_client(alloc, Kind::ExtensionHost, true)?;
+    let body = message(alloc, "hi")?;
+    Ok(client.dialer.say(alloc, body, Moment::start()).is_ok())
+}
+
+#[test]
+fn says(rt: HostRuntime) -> Result<(), Fail> {
+    assert!(rt; said(rt.alloc())?);
+    Ok(())
+}
