@@ -1,4 +1,4 @@
-use Rattle.std.proofs.Common.{◌≡◌, w32, of_z, ap, sym, ◌∙◌, arith}
+use Rattle.std.proofs.Common.{◌≡◌, w32, of_z, ap, ◌∙◌, arith}
 use Rattle.std.proofs.lemmas.Int.{to_z-of_z}
 use Rattle.ra_ipc.specs.View.{id_of}
 use Rattle.ra_chan_client.proofs.client.ChannelClient.has_listener.Goals as goal

@@ -1,4 +1,4 @@
-use Rattle.std.proofs.Common.{ℕ, List, not, sym, length, ap, ◌∙◌}
+use Rattle.std.proofs.Common.{ℕ, List, not, length, ap, ◌∙◌}
 use Rattle.std.specs.Prelude.{◌==◌}
 use Rattle.ra_ipc.specs.ChannelServers.{is_timed_out}
 use Rattle.ra_chan_server.specs.Requests.{id_in}
