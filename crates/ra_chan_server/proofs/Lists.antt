@@ -39,8 +39,8 @@ pub any_filtered : {X Y : Type 0} (f : X → Y) (p : X → Bool) (xs : List X) �
 any_filtered f p [] = refl
 any_filtered f p (x ∷ xs) = elim (cases_Bool (p x)) [ inl t ↦ rw t (some_left (length (map f (filter p xs)))) | inr g ↦ rw g (any_filtered f p xs) ]
   where
-  some_left : (n : ℕ) → not (suc n == 0) ≡ true
-  some_left n = grind (arith, nat_tests)
+    some_left : (n : ℕ) → not (suc n == 0) ≡ true
+    some_left n = grind (arith, nat_tests)
 
 -- ---- lists by their indices
 
