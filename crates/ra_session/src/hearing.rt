@@ -91,6 +91,7 @@ fn releases(packet: &Packet, client: &ChannelClient) -> bool
     }
 }
 
+/// Whether sessions of this kind carry calls and events.
 pub fn is_management(kind: Kind) -> bool
     ensures { result ≡ is_management kind }
 {

@@ -50,6 +50,14 @@ const SERVER_4_5: &[u8] =
 
 const CLIENT_7: &[u8] = b"\x01\0\0\0\x07\0\0\0\x05\0\0\0\x07\x04\x02\x06\x67\x06\x01\0";
 
+/// A call of a channel that is not there, as client message 3.
+const CALL_X: &[u8] =
+    b"\x01\0\0\0\x03\0\0\0\x01\0\0\0\x10\x04\x04\x06\x64\x06\0\x01\x01x\x01\x04echo\0";
+
+/// Its answer, as server message 2.
+const NO_X: &[u8] =
+    b"\x01\0\0\0\x02\0\0\0\x03\0\0\0\x57\x04\x02\x06\xca\x01\x06\0\x05\x4e{\"message\":\"Channel name 'x' timed out after 1000ms\",\"name\":\"Unknown channel\"}";
+
 fn at(millis: u64) -> Result<Moment, Fail> {
     Ok(Moment::of_millis(millis).ok_or("no moment")?)
 }
@@ -422,5 +430,33 @@ fn a_session_is_left_and_ends_once(rt: HostRuntime) -> Result<(), Fail> {
     assert!(rt; leave_tells(rt.alloc(), &mut served)?);
     served.end(Cause::BadIpc);
     assert_eq!(rt; served.cause(), Some(Cause::Disconnected));
+    Ok(())
+}
+
+/// Bytes are fed, and a turn without any takes a frame of them.
+fn feed_is_taken(alloc: Global, session: &mut Session) -> Result<bool, Fail> {
+    attach(alloc, session, 1, 0)?;
+    session.feed(1, OPENING, at(0)?)?;
+    answers(alloc, session, &[], SERVER_1)
+}
+
+#[test]
+fn what_was_fed_is_taken_by_a_turn(rt: HostRuntime) -> Result<(), Fail> {
+    let mut served = server(rt.alloc(), Kind::Management)?;
+    assert!(rt; feed_is_taken(rt.alloc(), &mut served)?);
+    Ok(())
+}
+
+/// A call waits a second for its channel, and is answered then.
+fn late_call_is_answered(alloc: Global, session: &mut Session) -> Result<bool, Fail> {
+    let waits = hear(alloc, session, 1, CALL_X, 0)? == (b'-', 0);
+    Ok(waits && tick_writes(alloc, session, 999, &[])? && tick_writes(alloc, session, 1_000, NO_X)?)
+}
+
+#[test]
+fn a_call_of_no_channel_is_answered_by_a_tick(rt: HostRuntime) -> Result<(), Fail> {
+    let mut served = server(rt.alloc(), Kind::Management)?;
+    assert!(rt; begin_server(rt.alloc(), &mut served)?);
+    assert!(rt; late_call_is_answered(rt.alloc(), &mut served)?);
     Ok(())
 }
