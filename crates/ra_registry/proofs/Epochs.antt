@@ -78,7 +78,7 @@ epoch_is r key legal =
     each_legal r (Counted r key) (rw (row_of-none r key) (sym (add-zero (epoch_of (start_row r.start key)))))
     (λ h entry l so_far fits. one_more r key h entry fits so_far) legal
 
-is_some-map : (change : Row → Row) (row : Option Row) → is_some (option_map change row) ≡ is_some row
+pub is_some-map : (change : Row → Row) (row : Option Row) → is_some (option_map change row) ≡ is_some row
 is_some-map change None = refl
 is_some-map change (Some row) = refl
 

@@ -9,5 +9,7 @@ pub mod Entered
 pub mod StartRows
 pub mod Accepted
 pub mod Expiries
+pub mod CountLemmas
+pub mod PresentRows
 pub mod LawLemmas
 mod WorkedRows

@@ -6,6 +6,7 @@ use Rattle.ra_base.specs.declared.handshake.Request.{Request}
 use Rattle.ra_base.specs.declared.kind.Kind.TheVariants.{Management}
 use Rattle.ra_base.specs.declared.key.Cause.TheVariants.{Disconnected, Stopped}
 use Rattle.ra_base.specs.declared.key.Key.{Key}
+use Rattle.ra_base.specs.declared.key.Seat.{Seat}
 use Rattle.ra_keep.specs.declared.record.Record.{Record}
 use Rattle.ra_registry.specs.declared.past.Did.{Did}
 use Rattle.ra_registry.specs.declared.past.Did.TheVariants.{Admitted, Refused, Lost, Closed}
@@ -15,6 +16,7 @@ use Rattle.ra_registry.specs.RegistryStates.{RegistryState}
 use Rattle.ra_registry.specs.Rows.{change, start_row, row_of}
 use Rattle.ra_registry.specs.Admission.{admission_refusal, seat_for}
 use Rattle.ra_registry.specs.Legal.{is_over}
+use Rattle.ra_registry.specs.Seats.{unspent}
 use Rattle.ra_registry.specs.KeptRecords.{records_of}
 
 abbrev registry : List Past → RegistryState
@@ -122,3 +124,19 @@ not_started = refl
 recorded : records_of (entry 0 (codes "t1") (Admitted 1 false) ∷ entry 5 (codes "t1") (Lost 1) ∷ entry 6 (codes "t2") (Admitted 1 false) ∷ [])
     ≡ record { key = key (codes "t1"); epoch = 1; at = 0 } ∷ record { key = key (codes "t2"); epoch = 1; at = 6 } ∷ []
 recorded = refl
+
+-- a seat that was given, and then one that was lost
+abbrev seat : ℕ → Seat
+seat epoch = record { key = key (codes "t1"); epoch = epoch }
+
+one_unspent : unspent (seat 1) (entry 0 (codes "t1") (Admitted 1 false) ∷ []) ≡ 1
+one_unspent = refl
+
+first_spent : unspent (seat 1) (entry 0 (codes "t1") (Admitted 1 false) ∷ entry 0 (codes "t1") (Lost 1) ∷ entry 50 (codes "t1") (Admitted 2 true) ∷ []) ≡ 0
+first_spent = refl
+
+second_unspent : unspent (seat 2) (entry 0 (codes "t1") (Admitted 1 false) ∷ entry 0 (codes "t1") (Lost 1) ∷ entry 50 (codes "t1") (Admitted 2 true) ∷ []) ≡ 1
+second_unspent = refl
+
+of_no_other : unspent (seat 2) (entry 0 (codes "t1") (Admitted 1 false) ∷ entry 7 (codes "t2") (Admitted 2 true) ∷ []) ≡ 0
+of_no_other = refl

@@ -1,5 +1,5 @@
 -- Which seats a history gives, and which are spent.
-use Rattle.std.specs.Prelude.{ℕ, ◌<◌, Bool, true, false, ◌&&◌, ◌==◌, List, count_by}
+use Rattle.std.specs.Prelude.{ℕ, ◌<◌, ◌-◌, Bool, true, false, ◌&&◌, ◌==◌, List, count_by}
 use Rattle.ra_base.specs.declared.key.Key.{Key}
 use Rattle.ra_base.specs.declared.key.Seat.{Seat}
 use Rattle.ra_registry.specs.declared.past.Did.{Did}
@@ -32,6 +32,10 @@ epoch_in (Closed epoch cause) = epoch
 epoch_in Expired = 0
 epoch_in Missed = 0
 
+-- the seat that an entry speaks of
+abbrev pub seat_of : Past → Seat
+seat_of entry = record { key = entry.key; epoch = epoch_in entry.did }
+
 -- the entry is of that key and epoch
 abbrev pub is_of : Seat → Past → Bool
 is_of seat entry = same_key seat.key entry.key && (seat.epoch == epoch_in entry.did)
@@ -49,6 +53,10 @@ given seat history = count_by (λ entry. admits entry.did && is_of seat entry) h
 
 abbrev pub spent : Seat → List Past → ℕ
 spent seat history = count_by (λ entry. ends entry.did && is_of seat entry) history
+
+-- how many seats of that key and epoch were given and are not spent
+abbrev pub unspent : Seat → List Past → ℕ
+unspent seat history = given seat history - spent seat history
 
 -- the seat was given and is not spent
 abbrev pub IsUnspent : Seat → List Past → Type 0

@@ -38,6 +38,7 @@ impl Registry {
     ghost use Rattle.ra_registry.specs.Rows.{row_of};
     ghost use Rattle.ra_registry.specs.RegistryStates.{with_entry};
     ghost use Rattle.ra_registry.specs.Seats.{IsUnspent};
+    ghost use Rattle.ra_registry.specs.Legal.{IsLegal};
     ghost use Rattle.ra_registry.specs.KeptRecords.{IsKept, Keeps, HasKeepCause};
 
     /// Whether the session of this kind and token has a row.
@@ -86,6 +87,8 @@ impl Registry {
         requires { spec.admission_refusal self.old ask.now at ≡ Some reason }
         ensures refused { OnOk result (self.new ≡ with_entry self.old (spec.refusal_entry ask.now at reason)) }
         ensures same { OnErr result (self.new ≡ self.old) }
+        ensures was_legal { IsLegal self.old }
+        ensures legal { IsLegal self.new }
     {
         let room = self.seats + self.open_keys.len() + 1;
         self.history.reserve(room)?;
@@ -125,6 +128,8 @@ impl Registry {
         ensures seat { IfOk result (λ seat. IsUnspent seat self.new.history) }
         ensures told { Keeps result at (R.told keeper.old) (R.told keeper.new) }
         ensures cause { HasKeepCause (R.faults keeper.old) (R.faults keeper.new) result }
+        ensures was_legal { IsLegal self.old }
+        ensures legal { IsLegal self.new }
     {
         let room = self.seats + self.open_keys.len() + 3;
         self.history.reserve(room)?;
@@ -176,6 +181,8 @@ impl Registry {
         ensures seat { IfOk result (λ seat. IsUnspent seat self.new.history) }
         ensures told { Keeps result at (R.told keeper.old) (R.told keeper.new) }
         ensures cause { HasKeepCause (R.faults keeper.old) (R.faults keeper.new) result }
+        ensures was_legal { IsLegal self.old }
+        ensures legal { IsLegal self.new }
     {
         let room = self.seats + self.open_keys.len() + 3;
         self.history.reserve(room)?;
@@ -229,6 +236,8 @@ impl Registry {
         ensures told { Keeps result now (R.told keeper.old) (R.told keeper.new) }
         ensures kept { IsKept (R.told keeper.old) self.old → IsKept (R.told keeper.new) self.new }
         ensures cause { HasKeepCause (R.faults keeper.old) (R.faults keeper.new) result }
+        ensures was_legal { IsLegal self.old }
+        ensures legal { IsLegal self.new }
     {
         let at = now.millis();
         if let Some(reason) = self.first_reason(&ask, at) {

@@ -87,12 +87,15 @@ fn close_expired(rows: &mut BTreeMap<Key, Row>, open_keys: &mut BTreeSet<Key>, e
 }
 
 impl Registry {
+    ghost use Rattle.ra_registry.specs.Legal.{IsLegal};
     ghost use Rattle.ra_registry.specs.Expiry.{Expires};
 
     /// Closes each row that is lost and whose grace is over at this moment, with cause `GraceOver`, and answers how many these are. Each
     /// has an entry, in the order of the keys. It takes no memory.
     pub fn expire(&mut self, now: Moment) -> u64
-        ensures { Expires self.old now result self.new }
+        ensures expired { Expires self.old now result self.new }
+        ensures was_legal { IsLegal self.old }
+        ensures legal { IsLegal self.new }
     {
         let at = now.millis();
         let before = self.history.len();

@@ -99,7 +99,9 @@ impl Registry {
     /// memory.
     pub fn lost(&mut self, seat: Seat, now: Moment)
         requires { IsUnspent seat self.old.history }
-        ensures { self.new ≡ with_entry self.old (record { at = now; key = seat.key; did = dids.Lost seat.epoch }) }
+        ensures lost { self.new ≡ with_entry self.old (record { at = now; key = seat.key; did = dids.Lost seat.epoch }) }
+        ensures was_legal { IsLegal self.old }
+        ensures legal { IsLegal self.new }
     {
         let Seat { key, epoch } = seat;
         let at = now.millis();
@@ -113,7 +115,9 @@ impl Registry {
     /// closed. It takes no memory.
     pub fn close(&mut self, seat: Seat, cause: Cause, now: Moment)
         requires { IsUnspent seat self.old.history }
-        ensures { self.new ≡ with_entry self.old (record { at = now; key = seat.key; did = dids.Closed seat.epoch cause }) }
+        ensures closed { self.new ≡ with_entry self.old (record { at = now; key = seat.key; did = dids.Closed seat.epoch cause }) }
+        ensures was_legal { IsLegal self.old }
+        ensures legal { IsLegal self.new }
     {
         let Seat { key, epoch } = seat;
         let at = now.millis();
@@ -129,6 +133,8 @@ impl Registry {
         requires { row_of self.old key.now ≡ None }
         ensures missed { OnOk result (self.new ≡ with_entry self.old (record { at = now; key = key.now; did = dids.Missed })) }
         ensures same { OnErr result (self.new ≡ self.old) }
+        ensures was_legal { IsLegal self.old }
+        ensures legal { IsLegal self.new }
     {
         let room = self.seats + self.open_keys.len() + 1;
         self.history.reserve(room)?;

@@ -24,3 +24,6 @@ invariant_of-self c =
     subst (λ (r : RegistryState). IsUnspent c.args.seat r.history) (sym c.self.view_is) c.requires in
     rw (c.push.ensures.items, c.unwrap.ensures, c.millis-at.ensures.value)
     (closed_consistent _ _ _ _ _ _ c.self.invariant c.close_row.new.rows c.forget_closed.new.open_keys _ c.args.seat c.args.cause c.args.now left c.close_row.ensures c.forget_closed.ensures.keys c.forget_closed.ensures.count c.push.ensures.capacity)
+
+pub returns-clause-legal : goal.returns-clause-legal
+returns-clause-legal c = (invariant_of-self c).legal

@@ -32,8 +32,8 @@ invariant_of-self c =
     (rw slice_is at c.close_expired.ensures.rows) (rw slice_is at c.close_expired.ensures.keys) (rw slice_is at c.close_expired.ensures.count)
     c.enter_expiries.ensures.capacity)
 
-pub returns : goal.returns
-returns c =
+pub returns-clause-expired : goal.returns-clause-expired
+returns-clause-expired c =
     let r : RegistryState = record {
       long_grace = c.self.inside.graces.long;
       short_grace = c.self.inside.graces.short;
@@ -58,3 +58,6 @@ returns c =
       );
       entered = rw c.enter_expiries.ensures.entered refl;
     })
+
+pub returns-clause-legal : goal.returns-clause-legal
+returns-clause-legal c = (invariant_of-self c).legal

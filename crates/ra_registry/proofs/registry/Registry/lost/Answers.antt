@@ -24,3 +24,6 @@ invariant_of-self c =
     subst (λ (r : RegistryState). IsUnspent c.args.seat r.history) (sym c.self.view_is) c.requires in
     rw (c.push.ensures.items, c.unwrap.ensures)
     (lost_consistent _ _ _ _ _ _ c.self.invariant c.lose_row.new.rows _ c.args.seat c.millis-at.result left c.lose_row.ensures c.push.ensures.capacity)
+
+pub returns-clause-legal : goal.returns-clause-legal
+returns-clause-legal c = (invariant_of-self c).legal

@@ -70,3 +70,6 @@ invariant_of-self-2 g c =
 pub returns-clause-seat : goal.returns-clause-seat
 returns-clause-seat g c =
     rw (c.enter_request.ensures.history, c.reserve.ensures.items, c.same-2.ensures) (just_given _ c.key_of-key.result _ c.args.at _ c.self.invariant.legal)
+
+pub returns-clause-legal : goal.returns-clause-legal
+returns-clause-legal g c = (invariant_of-self-2 g c).legal
