@@ -8,3 +8,5 @@ pub mod WholeTurns
 pub mod SaySteps
 pub mod TickSteps
 pub mod Beginning
+pub mod TurnLaws
+pub mod Roles

@@ -1,5 +1,5 @@
 -- A session: its endpoint, the calls and listeners of its two channel ends, and the cause of its end.
-use Rattle.std.specs.Prelude.{ℕ, Bool, true, false, not, Option, Some, None, List, [], ◌∷◌, codes, if◌then◌else◌}
+use Rattle.std.specs.Prelude.{◌≡◌, ℕ, Bool, true, false, not, Option, Some, None, List, [], ◌∷◌, codes, if◌then◌else◌}
 use Rattle.std.specs.Option.{is_some}
 use Rattle.ra_base.specs.declared.key.Cause.{Cause}
 use Rattle.ra_base.specs.declared.kind.Kind.{Kind}
@@ -58,3 +58,7 @@ on_endpoint call s = record s { peer = called call s.peer }
 -- it has ended; the first cause stays
 abbrev pub with_cause : Cause → Session → Session
 with_cause cause s = record s { cause = if is_some s.cause then s.cause else Some cause }
+
+-- the call changes neither the kind of a session nor which end it is
+abbrev pub KeepsRole : (Session → Session) → Type 0
+KeepsRole call = (s : Session) → ((call s).kind ≡ s.kind) × ((call s).serves ≡ s.serves)

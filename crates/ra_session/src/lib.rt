@@ -6,6 +6,7 @@
 mod creating;
 mod fault;
 mod hearing;
+pub mod laws;
 mod opening;
 mod packets;
 mod requests;
