@@ -8,3 +8,4 @@ pub mod LookRows
 pub mod StepRows
 pub mod CallRows
 mod Rows
+pub mod Sessions

@@ -10,3 +10,4 @@ pub mod Links
 pub mod Table
 pub mod DialerStates
 pub mod View
+pub mod Runs

@@ -8,6 +8,7 @@ mod calls;
 mod client;
 mod dialer;
 mod handshake;
+pub mod laws;
 mod links;
 mod outgoing;
 mod stage;
