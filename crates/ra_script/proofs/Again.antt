@@ -16,14 +16,15 @@ use Rattle.ra_script.specs.declared.line.What.TheVariants.{NotText}
 use Rattle.ra_script.specs.Words.{side_text, count_text, bytes_text, number_limit, moment_limit}
 use Rattle.ra_script.specs.Keywords.{keyword_at}
 use Rattle.ra_script.specs.Texts.{line_text}
-use Rattle.ra_script.specs.Reading.{is_text, words_at, line_at, lines_at, text_lines, without_empty_last, row_at, nothing_at, one_number_at, one_side_at, side_bytes_at, side_count_at, side_link_count_at, script_at}
+use Rattle.ra_script.specs.Lines.{is_text, line_by, lines_by, text_lines, without_empty_last}
+use Rattle.ra_script.specs.Reading.{words_at, line_at, row_at, nothing_at, one_number_at, one_side_at, side_bytes_at, side_count_at, side_link_count_at, script_at}
 use Rattle.ra_script.specs.Printable.{IsInRange, IsNoBase, IsPrintable, ended_text, parted_text}
 use Rattle.ra_script.proofs.Lines.{is_newline, some_part, more_parts, last_part}
 use Rattle.ra_script.proofs.Printed.{IsWord, is_space, literal_word, side_word, decimal_word, count_word, bytes_word, side_again, decimal_again, count_again, bytes_again, split_words, text_words}
 
 -- a line of words is read by its words
 by_words : (first : Bool) (word : List ℕ) (words : List (List ℕ)) → IsWord word → AllByRecursion IsWord words → line_at first (join_with_byte 32 (word ∷ words)) ≡ words_at first (word ∷ words)
-unfolding line_at
+unfolding line_by
 by_words first word words h hs = rw (text_words word words h hs, split_words word words h hs) refl
 
 abbrev pub IsPlace : Bool → Line → Type 0
@@ -63,15 +64,15 @@ line_again first (Drain s) h p = side_again_at first (codes "drain") s (literal_
 -- ---- lines with newlines
 
 -- the texts of lines, as they are read
-lines_again : (n : ℕ) (lines : List Line) → AllByRecursion IsInRange lines → AllByRecursion IsNoBase lines → 2 ≤ n → lines_at n (map line_text lines) ≡ Ok lines
-unfolding lines_at
+lines_again : (n : ℕ) (lines : List Line) → AllByRecursion IsInRange lines → AllByRecursion IsNoBase lines → 2 ≤ n → lines_by words_at n (map line_text lines) ≡ Ok lines
+unfolding lines_by
 lines_again n [] range no_base later = refl
 lines_again n (line ∷ lines) range no_base later =
     let first : eqb n 1 ≡ false = grind (arith, nat_tests) in
     rw (first, line_again false line range.0 no_base.0, lines_again (n + 1) lines range.1 no_base.1 (omega arith)) refl
 
-script_again : (lines : List Line) → IsPrintable lines → lines_at 1 (map line_text lines) ≡ Ok lines
-unfolding lines_at
+script_again : (lines : List Line) → IsPrintable lines → lines_by words_at 1 (map line_text lines) ≡ Ok lines
+unfolding lines_by
 script_again [] h = refl
 script_again (line ∷ lines) h =
     rw (line_again true line h.in_range.0 tt, lines_again 2 lines h.in_range.1 h.base_first (omega arith)) refl
@@ -83,7 +84,7 @@ tested true r x e = refl
 tested false r x e = absurd cc
 
 is_all_text : (first : Bool) (text : List ℕ) (line : Line) → line_at first text ≡ Ok line → list_all is_text text ≡ true
-unfolding line_at
+unfolding line_by
 is_all_text first text line e = tested (list_all is_text text) (words_at first (slice_split is_space text)) line e
 
 text_is_no_newline : (c : ℕ) → is_text c ≡ true → is_newline c ≡ false
@@ -93,7 +94,7 @@ no_newline_in : (first : Bool) (text : List ℕ) (line : Line) → line_at first
 no_newline_in first text line e k d lt = text_is_no_newline (get_or text k d) (AllPass-from_list_all is_text text (is_all_text first text line e) k d lt)
 
 is_not_empty : (text : List ℕ) (line : Line) → line_at true text ≡ Ok line → 0 < length text
-unfolding line_at keyword_at
+unfolding line_by keyword_at
 is_not_empty [] line e = absurd cc
 is_not_empty (c ∷ text) line e = omega arith
 
@@ -130,7 +131,7 @@ parted_lines (line ∷ next ∷ lines) range =
     ∙ ap (λ (ts : List (List ℕ)). text ∷ ts) (parted_lines (next ∷ lines) range.1)
 
 pub ended_again : (lines : List Line) → IsPrintable lines → script_at (ended_text lines) ≡ Ok lines
-ended_again lines h = ap (lines_at 1) (ended_lines lines h.in_range) ∙ script_again lines h
+ended_again lines h = ap (lines_by words_at 1) (ended_lines lines h.in_range) ∙ script_again lines h
 
 pub parted_again : (lines : List Line) → IsPrintable lines → script_at (parted_text lines) ≡ Ok lines
-parted_again lines h = ap (lines_at 1) (parted_lines lines h.in_range) ∙ script_again lines h
+parted_again lines h = ap (lines_by words_at 1) (parted_lines lines h.in_range) ∙ script_again lines h

@@ -1,7 +1,7 @@
 -- What is in the grammar is read.
 use Rattle.std.proofs.Common.{◌≡◌, ℕ, ◌+◌, ◌≤◌, inl, inr, Bool, true, false, eqb, List, [], ◌∷◌, length, Result, Ok, Err, refl, ap, subst, ◌∙◌, arith}
 use Rattle.std.specs.Prelude.{codes, IfOk}
-use Rattle.std.specs.List.{AllByRecursion}
+use Rattle.std.specs.List.{AllByRecursion, AllZip}
 use Rattle.std.specs.Str.{bytes_eq}
 use Rattle.std.proofs.lemmas.Bool.Decides.{nat_tests}
 use Rattle.hex.proofs.HexLemmas.{decode_of-ok}
@@ -12,14 +12,15 @@ use Rattle.ra_script.specs.declared.line.Line.TheVariants.{Base, Do, Drain}
 use Rattle.ra_script.specs.declared.line.ScriptFault.{ScriptFault}
 use Rattle.ra_script.specs.Keywords.{keyword_at}
 use Rattle.ra_script.specs.Words.{bytes_at, number_limit, moment_limit}
-use Rattle.ra_script.specs.Reading.{words_at, line_at, lines_at, text_lines, script_at, row_at, nothing_at, one_number_at, one_side_at, side_bytes_at, side_count_at, side_link_count_at, Gives}
+use Rattle.ra_script.specs.Lines.{line_by, lines_by, text_lines, Gives}
+use Rattle.ra_script.specs.Reading.{words_at, line_at, script_at, row_at, nothing_at, one_number_at, one_side_at, side_bytes_at, side_count_at, side_link_count_at}
 use Rattle.ra_script.specs.Printable.{IsInRange, IsNoBase, IsPrintable}
-use Rattle.ra_script.specs.Grammar.{SpellsBytes, SpellsEvent, Spells, IsLineOf, AreLinesOf, IsScriptOf}
+use Rattle.ra_script.specs.Grammar.{SpellsBytes, SpellsEvent, Spells, IsLineOf, IsScriptOf}
 use Rattle.ra_script.proofs.Printed.{differs, not_equal, side_again, decimal_again, count_again}
 use Rattle.ra_script.proofs.Again.{IsPlace}
 use Rattle.ra_script.proofs.Found.{script_found}
 
-bytes_spelled : (word bytes : List ℕ) → SpellsBytes word bytes → bytes_at word ≡ Ok bytes
+pub bytes_spelled : (word bytes : List ℕ) → SpellsBytes word bytes → bytes_at word ≡ Ok bytes
 unfolding bytes_at
 bytes_spelled word bytes (inl none) = rw (none.0, none.1) refl
 bytes_spelled word bytes (inr some) =
@@ -56,11 +57,11 @@ words_spelled first words (Do event) s h p = event_spelled first words event s h
 words_spelled first words (Drain side) s h p = ap (words_at first) s ∙ rw (side_again side) refl
 
 line_spelled : (first : Bool) (text : List ℕ) (line : Line) → IsLineOf text line → IsInRange line → IsPlace first line → line_at first text ≡ Ok line
-unfolding line_at
+unfolding line_by
 line_spelled first text line s h p = rw s.is_text (words_spelled first _ line s.spells h p)
 
-lines_spelled : (n : ℕ) (texts : List (List ℕ)) (lines : List Line) → 2 ≤ n → AreLinesOf texts lines → AllByRecursion IsInRange lines → AllByRecursion IsNoBase lines → lines_at n texts ≡ Ok lines
-unfolding lines_at
+lines_spelled : (n : ℕ) (texts : List (List ℕ)) (lines : List Line) → 2 ≤ n → AllZip IsLineOf texts lines → AllByRecursion IsInRange lines → AllByRecursion IsNoBase lines → lines_by words_at n texts ≡ Ok lines
+unfolding lines_by
 lines_spelled n [] [] later s h p = refl
 lines_spelled n (text ∷ texts) (line ∷ lines) later s h p =
     let first : eqb n 1 ≡ false = grind (arith, nat_tests) in
@@ -68,8 +69,8 @@ lines_spelled n (text ∷ texts) (line ∷ lines) later s h p =
 lines_spelled n [] (line ∷ lines) later s h p = absurd s
 lines_spelled n (text ∷ texts) [] later s h p = absurd s
 
-first_spelled : (texts : List (List ℕ)) (lines : List Line) → AreLinesOf texts lines → IsPrintable lines → lines_at 1 texts ≡ Ok lines
-unfolding lines_at
+first_spelled : (texts : List (List ℕ)) (lines : List Line) → AllZip IsLineOf texts lines → IsPrintable lines → lines_by words_at 1 texts ≡ Ok lines
+unfolding lines_by
 first_spelled [] [] s h = refl
 first_spelled (text ∷ texts) (line ∷ lines) s h =
     rw (line_spelled true text line s.0 h.in_range.0 tt, lines_spelled 2 texts lines (omega arith) s.1 h.in_range.1 h.base_first) refl

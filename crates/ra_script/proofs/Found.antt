@@ -1,7 +1,7 @@
 -- What is read is in the grammar.
 use Rattle.std.proofs.Common.{◌≡◌, ℕ, ◌+◌, ◌<◌, ◌≤◌, inl, inr, Bool, true, false, cond, eqb, List, [], ◌∷◌, length, get_or, drop, Option, Some, None, Result, Ok, Err, refl, sym, ap, subst, ◌∙◌, arith}
 use Rattle.std.specs.Prelude.{codes, find}
-use Rattle.std.specs.List.{AllByRecursion, list_all, slice_split}
+use Rattle.std.specs.List.{AllByRecursion, AllZip, list_all, slice_split}
 use Rattle.std.specs.Str.{bytes_eq}
 use Rattle.std.specs.Fmt.{decimal}
 use Rattle.std.proofs.lemmas.Bool.{eqb-true}
@@ -24,29 +24,30 @@ use Rattle.ra_script.specs.declared.keyword.Keyword.{Keyword}
 use Rattle.ra_script.specs.declared.keyword.Keyword.TheVariants as words
 use Rattle.ra_script.specs.Keywords.{keyword_text, keywords, keyword_at}
 use Rattle.ra_script.specs.Words.{◌>>=◌, side_text, count_text, side_at, number_at, count_at, bytes_at, digits_or_bad, number_limit, moment_limit}
-use Rattle.ra_script.specs.Reading.{is_text, is_out_of_place, from_keyword, words_at, line_at, lines_at, numbered, text_lines, script_at, row_at, nothing_at, one_number_at, one_side_at, side_bytes_at, side_count_at, side_link_count_at}
+use Rattle.ra_script.specs.Lines.{line_by, is_text, lines_by, numbered, text_lines}
+use Rattle.ra_script.specs.Reading.{is_out_of_place, from_keyword, words_at, line_at, script_at, row_at, nothing_at, one_number_at, one_side_at, side_bytes_at, side_count_at, side_link_count_at}
 use Rattle.ra_script.specs.Printable.{IsCountInRange, IsInRange, IsNoBase, IsPrintable}
-use Rattle.ra_script.specs.Grammar.{SpellsBytes, Spells, IsLineOf, AreLinesOf, IsScriptOf}
+use Rattle.ra_script.specs.Grammar.{SpellsBytes, Spells, IsLineOf, IsScriptOf}
 use Rattle.ra_script.proofs.Numbers.{number_found}
 use Rattle.ra_script.proofs.Again.{IsPlace}
 
-abbrev done : {A E : Type 0} → A → Result A E
+abbrev pub done : {A E : Type 0} → A → Result A E
 done x = Ok x
 
-ok_is : {A E : Type 0} (x y : A) → done {E = E} x ≡ done y → x ≡ y
+pub ok_is : {A E : Type 0} (x y : A) → done {E = E} x ≡ done y → x ≡ y
 ok_is x y e = cc
 
 -- the value of a step that did not fail
-bind_ok : {A B E : Type 0} (r : Result A E) (f : A → Result B E) (y : B) → (r >>= f) ≡ Ok y → (x : A) × (r ≡ Ok x) × (f x ≡ Ok y)
+pub bind_ok : {A B E : Type 0} (r : Result A E) (f : A → Result B E) (y : B) → (r >>= f) ≡ Ok y → (x : A) × (r ≡ Ok x) × (f x ≡ Ok y)
 bind_ok (Ok x) f y e = (x, refl, e)
 bind_ok (Err d) f y e = absurd cc
 
 -- what holds of each value that was made holds of the one that is there
-finished : {A : Type 0} (r : Result A What) (f : A → Line) (line : Line) (P : Line → Type 0) → (r >>= λ x. Ok (f x)) ≡ Ok line → ((x : A) → r ≡ Ok x → P (f x)) → P line
+pub finished : {A L : Type 0} (r : Result A What) (f : A → L) (line : L) (P : L → Type 0) → (r >>= λ x. Ok (f x)) ≡ Ok line → ((x : A) → r ≡ Ok x → P (f x)) → P line
 finished (Ok x) f line P e h = subst P (ok_is {E = What} (f x) line e) (h x refl)
 finished (Err what) f line P e h = absurd cc
 
-same : (a b : List ℕ) → bytes_eq a b ≡ true → a ≡ b
+pub same : (a b : List ℕ) → bytes_eq a b ≡ true → a ≡ b
 same a b h = (bytes_eq-Decides a b).0 h
 
 -- ---- words
@@ -79,7 +80,7 @@ tilde_front : (word : List ℕ) → eqb (get_or word 0 0) 126 ≡ true → word 
 tilde_front [] h = let e = eqb-true 0 126 h in absurd (omega arith)
 tilde_front (c ∷ word) h = ap (λ (d : ℕ). d ∷ word) (eqb-true c 126 h)
 
-count_found : (word : List ℕ) (count : Count) → count_at word ≡ Ok count → IsCountOf word count
+pub count_found : (word : List ℕ) (count : Count) → count_at word ≡ Ok count → IsCountOf word count
 unfolding count_at
 count_found word count e = count_cases (bytes_eq word (codes "*")) (eqb (get_or word 0 0) 126) word count (same word (codes "*")) (tilde_front word) e
 
@@ -101,18 +102,18 @@ bytes_cases false false word bytes hd he e =
     let some = he refl in
     record { spells = inr (omega (arith, facts.2), read); range = facts.3 }
 
-bytes_found : (word bytes : List ℕ) → bytes_at word ≡ Ok bytes → IsBytesOf word bytes
+pub bytes_found : (word bytes : List ℕ) → bytes_at word ≡ Ok bytes → IsBytesOf word bytes
 unfolding bytes_at
 bytes_found word bytes e = bytes_cases (bytes_eq word (codes "-")) (eqb (length word) 0) word bytes (same word (codes "-")) (λ h. grind (arith, nat_tests)) e
 
 -- ---- what stands after the first word
 
-nothing_found : (args : List (List ℕ)) (x : Unit {0}) → nothing_at args ≡ Ok x → args ≡ []
+pub nothing_found : (args : List (List ℕ)) (x : Unit {0}) → nothing_at args ≡ Ok x → args ≡ []
 unfolding nothing_at
 nothing_found [] x e = refl
 nothing_found (a ∷ args) x e = absurd cc
 
-one_number_found : (limit : ℕ) (args : List (List ℕ)) (n : ℕ) → one_number_at limit args ≡ Ok n → (n < limit) × (args ≡ decimal n ∷ [])
+pub one_number_found : (limit : ℕ) (args : List (List ℕ)) (n : ℕ) → one_number_at limit args ≡ Ok n → (n < limit) × (args ≡ decimal n ∷ [])
 unfolding one_number_at
 one_number_found limit [] n e = absurd cc
 one_number_found limit (a ∷ []) n e = let f = number_found limit n a e in (f.0, ap (λ (w : List ℕ). w ∷ []) f.1)
@@ -212,11 +213,11 @@ row_found first words.Tick args line out e = finished (one_side_at args) (λ x. 
 row_found first words.Lose args line out e = finished (one_side_at args) (λ x. Do (events.Lose x)) line (IsSaid first (codes "lose" ∷ args)) e (λ x r. record { spells = ap (λ (others : List (List ℕ)). codes "lose" ∷ others) (one_side_found args x r); range = tt; place = place first (Do (events.Lose x)) tt })
 row_found first words.Drain args line out e = finished (one_side_at args) (λ x. Drain x) line (IsSaid first (codes "drain" ∷ args)) e (λ x r. record { spells = ap (λ (others : List (List ℕ)). codes "drain" ∷ others) (one_side_found args x r); range = tt; place = place first (Drain x) tt })
 
-find_cons : (b : Bool) (x y : Keyword) (rest : Option Keyword) (p : Keyword → Bool) → b ≡ p x → (rest ≡ Some y → p y ≡ true) → cond b (Some x) rest ≡ Some y → p y ≡ true
+find_cons : {K : Type 0} (b : Bool) (x y : K) (rest : Option K) (p : K → Bool) → b ≡ p x → (rest ≡ Some y → p y ≡ true) → cond b (Some x) rest ≡ Some y → p y ≡ true
 find_cons true x y rest p is h e = let k : x ≡ y = cc in rw (← k) (sym is)
 find_cons false x y rest p is h e = h e
 
-find_passes : (p : Keyword → Bool) (ks : List Keyword) (k : Keyword) → find p ks ≡ Some k → p k ≡ true
+pub find_passes : {K : Type 0} (p : K → Bool) (ks : List K) (k : K) → find p ks ≡ Some k → p k ≡ true
 find_passes p [] k e = absurd cc
 find_passes p (x ∷ ks) k e = find_cons (p x) x k (find p ks) p refl (find_passes p ks k) e
 
@@ -238,7 +239,7 @@ words_found : (first : Bool) (texts : List (List ℕ)) (line : Line) → words_a
 words_found first [] line e = absurd cc
 words_found first (word ∷ args) line e = said first word args (keyword_at word) line (keyword_found word) e
 
-checked : (b : Bool) (r : Result Line What) (line : Line) → cond b r (Err NotText) ≡ Ok line → (b ≡ true) × (r ≡ Ok line)
+pub checked : {L : Type 0} (b : Bool) (r : Result L What) (line : L) → cond b r (Err NotText) ≡ Ok line → (b ≡ true) × (r ≡ Ok line)
 checked true r line e = (refl, e)
 checked false r line e = absurd cc
 
@@ -248,7 +249,7 @@ pub record IsLineRead (first : Bool) (text : List ℕ) (line : Line) : Type 0 wh
   pub place : IsPlace first line
 
 line_found : (first : Bool) (text : List ℕ) (line : Line) → line_at first text ≡ Ok line → IsLineRead first text line
-unfolding line_at
+unfolding line_by
 line_found first text line e =
     let t = checked (list_all is_text text) (words_at first (slice_split (λ c. eqb c 32) text)) line e in
     let w = words_found first (slice_split (λ c. eqb c 32) text) line t.1 in
@@ -256,24 +257,24 @@ line_found first text line e =
 
 -- ---- a text
 
-numbered_ok : (n : ℕ) (r : Result Line What) (line : Line) → numbered n r ≡ Ok line → r ≡ Ok line
-numbered_ok n (Ok read) line e = ap (λ (l : Line). Ok l) (ok_is {E = ScriptFault} read line e)
+pub numbered_ok : {L : Type 0} (n : ℕ) (r : Result L What) (line : L) → numbered n r ≡ Ok line → r ≡ Ok line
+numbered_ok {L} n (Ok read) line e = ap (λ (l : L). Ok l) (ok_is {E = ScriptFault} read line e)
 numbered_ok n (Err what) line e = absurd cc
 
 pub record AreRead (texts : List (List ℕ)) (lines : List Line) : Type 0 where
-  pub lines_of : AreLinesOf texts lines
+  pub lines_of : AllZip IsLineOf texts lines
   pub range : AllByRecursion IsInRange lines
 
 pub record AreReadLater (texts : List (List ℕ)) (lines : List Line) : Type 0 where
   pub read : AreRead texts lines
   pub no_base : AllByRecursion IsNoBase lines
 
-lines_found : (n : ℕ) (texts : List (List ℕ)) (lines : List Line) → 2 ≤ n → lines_at n texts ≡ Ok lines → AreReadLater texts lines
-unfolding lines_at
+lines_found : (n : ℕ) (texts : List (List ℕ)) (lines : List Line) → 2 ≤ n → lines_by words_at n texts ≡ Ok lines → AreReadLater texts lines
+unfolding lines_by
 lines_found n [] lines later e = subst (AreReadLater []) (ok_is {E = ScriptFault} [] lines e) record { read = record { lines_of = tt; range = tt }; no_base = tt }
 lines_found n (text ∷ texts) lines later e =
-    let l = bind_ok (numbered n (line_at (eqb n 1) text)) (λ x. lines_at (n + 1) texts >>= λ xs. Ok (x ∷ xs)) lines e in
-    let ls = bind_ok (lines_at (n + 1) texts) (λ xs. Ok (l.0 ∷ xs)) lines l.2 in
+    let l = bind_ok (numbered n (line_at (eqb n 1) text)) (λ x. lines_by words_at (n + 1) texts >>= λ xs. Ok (x ∷ xs)) lines e in
+    let ls = bind_ok (lines_by words_at (n + 1) texts) (λ xs. Ok (l.0 ∷ xs)) lines l.2 in
     let first : eqb n 1 ≡ false = grind (arith, nat_tests) in
     let one = line_found false text l.0 (sym (ap (λ (b : Bool). line_at b text) first) ∙ numbered_ok n (line_at (eqb n 1) text) l.0 l.1) in
     let others = lines_found (n + 1) texts ls.0 (omega arith) ls.1 in
@@ -283,15 +284,15 @@ lines_found n (text ∷ texts) lines later e =
     }
 
 pub record AreReadFirst (texts : List (List ℕ)) (lines : List Line) : Type 0 where
-  pub lines_of : AreLinesOf texts lines
+  pub lines_of : AllZip IsLineOf texts lines
   pub printable : IsPrintable lines
 
-first_found : (texts : List (List ℕ)) (lines : List Line) → lines_at 1 texts ≡ Ok lines → AreReadFirst texts lines
-unfolding lines_at
+first_found : (texts : List (List ℕ)) (lines : List Line) → lines_by words_at 1 texts ≡ Ok lines → AreReadFirst texts lines
+unfolding lines_by
 first_found [] lines e = subst (AreReadFirst []) (ok_is {E = ScriptFault} [] lines e) record { lines_of = tt; printable = record { base_first = tt; in_range = tt } }
 first_found (text ∷ texts) lines e =
-    let l = bind_ok (numbered 1 (line_at true text)) (λ x. lines_at 2 texts >>= λ xs. Ok (x ∷ xs)) lines e in
-    let ls = bind_ok (lines_at 2 texts) (λ xs. Ok (l.0 ∷ xs)) lines l.2 in
+    let l = bind_ok (numbered 1 (line_at true text)) (λ x. lines_by words_at 2 texts >>= λ xs. Ok (x ∷ xs)) lines e in
+    let ls = bind_ok (lines_by words_at 2 texts) (λ xs. Ok (l.0 ∷ xs)) lines l.2 in
     let one = line_found true text l.0 (numbered_ok 1 (line_at true text) l.0 l.1) in
     let others = lines_found 2 texts ls.0 (omega arith) ls.1 in
     subst (AreReadFirst (text ∷ texts)) (ok_is {E = ScriptFault} (l.0 ∷ ls.0) lines ls.2) record {

@@ -1,8 +1,14 @@
 pub mod Numbers
 pub mod Lines
+pub mod Parts
 pub mod Draws
 pub mod Printed
 pub mod Again
 pub mod Found
 pub mod Complete
+pub mod GrandFound
+pub mod GrandComplete
+pub mod GrandFits
+pub mod GrandAnswers
 pub mod WorkedRows
+pub mod GrandRows

@@ -6,17 +6,17 @@ use Rattle.std.proofs.lemmas.List.{take_all, drop_all, length-drop, append-nil}
 use Rattle.std.proofs.Math.Dec.{eqb-suc-zero}
 use Rattle.std.proofs.lemmas.List.Splits.{slice_split_first, slice_split_none}
 use Rattle.std.proofs.lemmas.List.Sums.{fails_before_first}
-use Rattle.ra_script.specs.declared.line.Line.{Line}
+use Rattle.ra_script.specs.declared.line.What.{What}
 use Rattle.ra_script.specs.declared.line.ScriptFault.{ScriptFault}
 use Rattle.ra_script.specs.declared.line.ScriptFault.TheVariants as faults
 use Rattle.ra_script.specs.Words.{◌>>=◌}
-use Rattle.ra_script.specs.Reading.{line_at, lines_at, numbered, text_lines, without_empty_last, Fails}
+use Rattle.ra_script.specs.Lines.{line_by, lines_by, numbered, text_lines, without_empty_last, Fails}
 
 abbrev pub is_newline : ℕ → Bool
 is_newline c = eqb c 10
 
 -- what was read before, and what is still read
-abbrev pub with_front : List Line → Result (List Line) ScriptFault → Result (List Line) ScriptFault
+abbrev pub with_front : {L : Type 0} → List L → Result (List L) ScriptFault → Result (List L) ScriptFault
 with_front front read = read >>= λ lines. Ok (front ++ lines)
 
 -- there is always a part
@@ -95,37 +95,37 @@ rest_none text e =
 
 -- ---- one line more
 
-regroup : (front : List Line) (line : Line) (read : Result (List Line) ScriptFault) → with_front front (read >>= λ others. Ok (line ∷ others)) ≡ with_front (front ++ line ∷ []) read
+regroup : {L : Type 0} (front : List L) (line : L) (read : Result (List L) ScriptFault) → with_front front (read >>= λ others. Ok (line ∷ others)) ≡ with_front (front ++ line ∷ []) read
 regroup front line (Ok lines) = ap Ok (simp append_assoc)
 regroup front line (Err fault) = refl
 
 -- a line that has a reading
-pub one_read : (front : List Line) (n : ℕ) (text first rest : List ℕ) (line : Line) (all : Result (List Line) ScriptFault) → 0 < length text → first ≡ before_first is_newline text → rest ≡ after_first is_newline text
-    → numbered n (line_at (eqb n 1) first) ≡ Ok line → with_front front (lines_at n (text_lines text)) ≡ all → with_front (front ++ line ∷ []) (lines_at (n + 1) (text_lines rest)) ≡ all
-unfolding lines_at
-one_read front n text first rest line all some first-is rest-is read e =
+pub one_read : {L : Type 0} (says : Bool → List (List ℕ) → Result L What) (front : List L) (n : ℕ) (text first rest : List ℕ) (line : L) (all : Result (List L) ScriptFault) → 0 < length text → first ≡ before_first is_newline text → rest ≡ after_first is_newline text
+    → numbered n (line_by (says (eqb n 1)) first) ≡ Ok line → with_front front (lines_by says n (text_lines text)) ≡ all → with_front (front ++ line ∷ []) (lines_by says (n + 1) (text_lines rest)) ≡ all
+unfolding lines_by
+one_read {L} says front n text first rest line all some first-is rest-is read e =
     let step : text_lines text ≡ first ∷ text_lines rest = rw (first-is, rest-is) (text_lines-step text some) in
-    sym (regroup front line (lines_at (n + 1) (text_lines rest)))
-    ∙ sym (ap (λ (ls : List (List ℕ)). with_front front (lines_at n ls)) step ∙ ap (λ (r : Result Line ScriptFault). with_front front (r >>= λ l. lines_at (n + 1) (text_lines rest) >>= λ others. Ok (l ∷ others))) read)
+    sym (regroup front line (lines_by says (n + 1) (text_lines rest)))
+    ∙ sym (ap (λ (ls : List (List ℕ)). with_front front (lines_by says n ls)) step ∙ ap (λ (r : Result L ScriptFault). with_front front (r >>= λ l. lines_by says (n + 1) (text_lines rest) >>= λ others. Ok (l ∷ others))) read)
     ∙ e
 
 -- and one that has none
-pub one_fault : (front : List Line) (n : ℕ) (text first rest : List ℕ) (fault : ScriptFault) (all : Result (List Line) ScriptFault) → 0 < length text → first ≡ before_first is_newline text → rest ≡ after_first is_newline text
-    → with_front front (lines_at n (text_lines text)) ≡ all → numbered n (line_at (eqb n 1) first) ≡ Err fault → all ≡ Err fault
-unfolding lines_at
-one_fault front n text first rest fault all some first-is rest-is e read =
+pub one_fault : {L : Type 0} (says : Bool → List (List ℕ) → Result L What) (front : List L) (n : ℕ) (text first rest : List ℕ) (fault : ScriptFault) (all : Result (List L) ScriptFault) → 0 < length text → first ≡ before_first is_newline text → rest ≡ after_first is_newline text
+    → with_front front (lines_by says n (text_lines text)) ≡ all → numbered n (line_by (says (eqb n 1)) first) ≡ Err fault → all ≡ Err fault
+unfolding lines_by
+one_fault {L} says front n text first rest fault all some first-is rest-is e read =
     let step : text_lines text ≡ first ∷ text_lines rest = rw (first-is, rest-is) (text_lines-step text some) in
-    sym e ∙ ap (λ (ls : List (List ℕ)). with_front front (lines_at n ls)) step
-    ∙ ap (λ (r : Result Line ScriptFault). with_front front (r >>= λ l. lines_at (n + 1) (text_lines rest) >>= λ others. Ok (l ∷ others))) read
+    sym e ∙ ap (λ (ls : List (List ℕ)). with_front front (lines_by says n ls)) step
+    ∙ ap (λ (r : Result L ScriptFault). with_front front (r >>= λ l. lines_by says (n + 1) (text_lines rest) >>= λ others. Ok (l ∷ others))) read
 
 -- no line is left
-pub none_left : (front : List Line) (n : ℕ) (text : List ℕ) (all : Result (List Line) ScriptFault) → length text ≡ 0 → with_front front (lines_at n (text_lines text)) ≡ all → all ≡ Ok front
-unfolding lines_at
-none_left front n text all empty e =
-    sym e ∙ ap (λ (ls : List (List ℕ)). with_front front (lines_at n ls)) (text_lines-nil text empty) ∙ ap Ok (append-nil front)
+pub none_left : {L : Type 0} (says : Bool → List (List ℕ) → Result L What) (front : List L) (n : ℕ) (text : List ℕ) (all : Result (List L) ScriptFault) → length text ≡ 0 → with_front front (lines_by says n (text_lines text)) ≡ all → all ≡ Ok front
+unfolding lines_by
+none_left says front n text all empty e =
+    sym e ∙ ap (λ (ls : List (List ℕ)). with_front front (lines_by says n ls)) (text_lines-nil text empty) ∙ ap Ok (append-nil front)
 
 -- a fault is passed on
-pub fault_passes : (e : ScriptFault) (r : Result Line ScriptFault) (all : Result (List Line) ScriptFault)
+pub fault_passes : {L M : Type 0} (e : ScriptFault) (r : Result L ScriptFault) (all : Result M ScriptFault)
     → Fails e r → ((fault : ScriptFault) → r ≡ Err fault → all ≡ Err fault) → Fails e all
 fault_passes (faults.At n what) r all h step = step (faults.At n what) h
 fault_passes faults.NoMemory r all h step = tt

@@ -20,7 +20,7 @@ use Rattle.ra_base.specs.declared.event.Side.TheVariants.{A, B}
 use Rattle.ra_base.specs.declared.event.Count.{Count}
 use Rattle.ra_base.specs.declared.event.Count.TheVariants as counts
 use Rattle.ra_script.specs.Words.{side_text, count_text, bytes_text, side_at, number_at, count_at, bytes_at, number_limit}
-use Rattle.ra_script.specs.Reading.{is_text}
+use Rattle.ra_script.specs.Lines.{is_text}
 use Rattle.ra_script.specs.Printable.{IsCountInRange}
 use Rattle.ra_script.proofs.Numbers.{number_again}
 

@@ -1,6 +1,6 @@
 -- Which texts are scripts, and of which lines.
-use Rattle.std.specs.Prelude.{◌≡◌, ℕ, ◌<◌, ◌==◌, ◌⊎◌, true, List, [], ◌∷◌, length, codes, Ok}
-use Rattle.std.specs.List.{slice_split, list_all}
+use Rattle.std.specs.Prelude.{◌≡◌, ℕ, ◌<◌, ◌⊎◌, true, List, [], ◌∷◌, length, codes, Ok}
+use Rattle.std.specs.List.{list_all, AllZip}
 use Rattle.hex.specs.Hex.{decode_of}
 use Rattle.ra_base.specs.declared.event.Event.{Event}
 use Rattle.ra_base.specs.declared.event.Event.TheVariants as events
@@ -8,7 +8,7 @@ use Rattle.ra_script.specs.declared.line.Line.{Line}
 use Rattle.ra_script.specs.declared.line.Line.TheVariants.{Base, Do, Drain}
 use Rattle.ra_script.specs.Words.{side_text}
 use Rattle.ra_script.specs.Texts.{line_words, event_words}
-use Rattle.ra_script.specs.Reading.{is_text, text_lines}
+use Rattle.ra_script.specs.Lines.{is_text, words_in, text_lines}
 use Rattle.ra_script.specs.Printable.{IsPrintable}
 
 -- a dash for no bytes, or two digits for each, in either case
@@ -29,14 +29,8 @@ Spells words (Drain side) = words ≡ line_words (Drain side)
 -- a text of words with one space between
 pub record IsLineOf (text : List ℕ) (line : Line) : Type 0 where
   pub is_text : list_all is_text text ≡ true
-  pub spells : Spells (slice_split (λ c. c == 32) text) line
-
-abbrev pub AreLinesOf : List (List ℕ) → List Line → Type 0
-AreLinesOf [] [] = Unit {0}
-AreLinesOf (text ∷ texts) (line ∷ lines) = IsLineOf text line × AreLinesOf texts lines
-AreLinesOf [] (line ∷ lines) = ⊥
-AreLinesOf (text ∷ texts) [] = ⊥
+  pub spells : Spells (words_in text) line
 
 pub record IsScriptOf (text : List ℕ) (lines : List Line) : Type 0 where
-  pub lines_of : AreLinesOf (text_lines text) lines
+  pub lines_of : AllZip IsLineOf (text_lines text) lines
   pub printable : IsPrintable lines

@@ -1,9 +1,15 @@
 pub mod Causes
 pub mod Faults
 pub mod Words
+pub mod Lines
 pub mod Keywords
 pub mod Texts
 pub mod Reading
 pub mod Generated
 pub mod Printable
 pub mod Grammar
+pub mod GrandKeywords
+pub mod GrandWords
+pub mod GrandReading
+pub mod GrandGrammar
+pub mod GrandLines

@@ -1,18 +1,17 @@
--- Reading a line, word by word, and a whole text, line by line.
-use Rattle.std.specs.Prelude.{◌≡◌, ℕ, ◌+◌, ◌==◌, ◌&&◌, nat_le, Bool, false, not, if◌then◌else◌, List, [], ◌∷◌, length, Option, Some, None, Result, Ok, Err}
-use Rattle.std.specs.List.{slice_split, list_all}
+-- Reading a line of a script, word by word.
+use Rattle.std.specs.Prelude.{ℕ, Bool, false, not, if◌then◌else◌, List, [], ◌∷◌, Option, Some, None, Result, Ok, Err}
 use Rattle.ra_base.specs.declared.event.Side.{Side}
 use Rattle.ra_base.specs.declared.event.Count.{Count}
 use Rattle.ra_base.specs.declared.event.Event.TheVariants as events
 use Rattle.ra_script.specs.declared.line.Line.{Line}
 use Rattle.ra_script.specs.declared.line.Line.TheVariants.{Base, Do, Drain}
 use Rattle.ra_script.specs.declared.line.What.{What}
-use Rattle.ra_script.specs.declared.line.What.TheVariants.{NotText, UnknownWord, WrongCount}
+use Rattle.ra_script.specs.declared.line.What.TheVariants.{UnknownWord, WrongCount}
 use Rattle.ra_script.specs.declared.line.ScriptFault.{ScriptFault}
-use Rattle.ra_script.specs.declared.line.ScriptFault.TheVariants as faults
 use Rattle.ra_script.specs.declared.keyword.Keyword.{Keyword}
 use Rattle.ra_script.specs.declared.keyword.Keyword.TheVariants as words
 use Rattle.ra_script.specs.Keywords.{keyword_at}
+use Rattle.ra_script.specs.Lines.{line_by, script_by}
 use Rattle.ra_script.specs.Words.{◌>>=◌, number_limit, moment_limit, side_at, number_at, count_at, bytes_at}
 
 -- ---- what stands after the first word
@@ -86,50 +85,10 @@ abbrev pub words_at : Bool → List (List ℕ) → Result Line What
 words_at first [] = Err UnknownWord
 words_at first (word ∷ args) = from_keyword first args (keyword_at word)
 
--- a byte from the space to the tilde
-abbrev pub is_text : ℕ → Bool
-is_text c = nat_le 32 c && nat_le c 126
-
 -- what a line says, where `first` tells whether it is the first one
-unfoldable pub line_at : Bool → List ℕ → Result Line What
-line_at first line = if list_all is_text line then words_at first (slice_split (λ c. c == 32) line) else Err NotText
-
--- ---- a text
-
--- an empty last part is no line
-abbrev pub without_empty_last : List (List ℕ) → List (List ℕ)
-without_empty_last [] = []
-without_empty_last (part ∷ []) = if length part == 0 then [] else part ∷ []
-without_empty_last (part ∷ next ∷ parts) = part ∷ without_empty_last (next ∷ parts)
-
--- the parts between newlines, of which the last one may be missing
-unfoldable pub text_lines : List ℕ → List (List ℕ)
-text_lines text = without_empty_last (slice_split (λ c. c == 10) text)
-
--- a line's cause with its number
-abbrev pub numbered : ℕ → Result Line What → Result Line ScriptFault
-numbered n (Ok line) = Ok line
-numbered n (Err what) = Err (faults.At n what)
-
--- lines that are numbered from n
-unfoldable pub lines_at : ℕ → List (List ℕ) → Result (List Line) ScriptFault
-lines_at n [] = Ok []
-lines_at n (line ∷ lines) = do
-  first ← numbered n (line_at (n == 1) line)
-  others ← lines_at (n + 1) lines
-  Ok (first ∷ others)
+abbrev pub line_at : Bool → List ℕ → Result Line What
+line_at first = line_by (words_at first)
 
 -- what a whole text says
 abbrev pub script_at : List ℕ → Result (List Line) ScriptFault
-script_at text = lines_at 1 (text_lines text)
-
--- ---- what the code answers
-
--- what a call returned, seen by view, is what reading gives, unless memory ran out
-abbrev pub Fails : {Y : Type 0} → ScriptFault → Result Y ScriptFault → Type 0
-Fails (faults.At line what) read = read ≡ Err (faults.At line what)
-Fails faults.NoMemory read = Unit {0}
-
-abbrev pub Gives : {X Y : Type 0} → (X → Y) → Result X ScriptFault → Result Y ScriptFault → Type 0
-Gives view (Ok x) read = read ≡ Ok (view x)
-Gives view (Err fault) read = Fails fault read
+script_at = script_by words_at

@@ -3,6 +3,7 @@ ghost use Rattle.std.specs.Prelude.{◌≡◌};
 ghost use Rattle.ra_script.specs.declared.fault.LineFault.TheVariants.{NoMemory, Wrong};
 
 use crate::line::What;
+use ra_values::NoMemory;
 use std::alloc::AllocError;
 
 /// What ends the reading of a line.
@@ -17,6 +18,14 @@ impl From<What> for LineFault {
 
     fn from(what: What) -> Self {
         LineFault::Wrong { what }
+    }
+}
+
+impl From<NoMemory> for LineFault {
+    ghost from_gives = { λ _ e. e ≡ NoMemory };
+
+    fn from(_: NoMemory) -> Self {
+        LineFault::NoMemory
     }
 }
 

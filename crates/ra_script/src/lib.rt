@@ -1,23 +1,34 @@
-//! Scripts: the lines that say what happens to two endpoints, read from text and printed, and a generator of them.
+//! Scripts, read from text. A script says what happens to two endpoints and the links between them; it is printed and drawn here
+//! too. A grand script says what happens to a hub, its clients and the links between them.
 //!
 //! A line is read and printed here, and never run.
 #![tactic(auto)]
 
 mod fault;
 mod generating;
+mod grand_keyword;
+pub mod grand_line;
+mod grand_reading;
+mod grand_rows;
+mod grand_words;
 mod keyword;
 pub mod laws;
 pub mod line;
 mod printing;
 mod reading;
 mod rows;
+mod script;
 mod words;
 
 pub use generating::generate;
+pub use grand_line::{GrandEvent, GrandLine};
+pub use grand_reading::parse_grand;
 pub use line::{Line, ScriptFault, What};
 pub use printing::print;
 pub use reading::parse;
 pub use words::number;
 
+#[cfg(test)]
+mod grand_tests;
 #[cfg(test)]
 mod tests;

@@ -22,13 +22,13 @@ pub enum Line {
 pub enum What {
     /// A byte outside 0x20 to 0x7E.
     NotText,
-    /// The first word is no word of the grammar, or a side is neither `A` nor `B`.
+    /// The first word is no word of the grammar, or a word is no side, or no kind of a client.
     UnknownWord,
     /// Another number of words.
     WrongCount,
     /// A number is no decimal without leading zeros, or too large.
     BadNumber,
-    /// Bytes that are no hexadecimal digits, or an odd number of them.
+    /// Bytes that are no hexadecimal digits, or an odd number of them; a text that is not UTF-8; a word that is no token.
     BadBytes,
 }
 

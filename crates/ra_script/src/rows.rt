@@ -12,7 +12,7 @@ use ra_base::{Count, Event, Message, Side};
 use std::alloc::Global;
 
 #[tactic(auto, unfolding(crate::specs::Reading::nothing_at))]
-fn nothing(args: &[&[u8]]) -> Result<(), What>
+pub fn nothing(args: &[&[u8]]) -> Result<(), What>
     ensures { result ≡ nothing_at (map (λ w. w.now) args.now) }
 {
     match args {
@@ -22,7 +22,7 @@ fn nothing(args: &[&[u8]]) -> Result<(), What>
 }
 
 #[tactic(auto, unfolding(crate::specs::Reading::one_number_at))]
-fn one_number(args: &[&[u8]]) -> Result<u64, What>
+pub fn one_number(args: &[&[u8]]) -> Result<u64, What>
     ensures { result ≡ one_number_at number_limit (map (λ w. w.now) args.now) }
 {
     match args {
@@ -32,7 +32,7 @@ fn one_number(args: &[&[u8]]) -> Result<u64, What>
 }
 
 #[tactic(auto, unfolding(crate::specs::Reading::one_number_at))]
-fn one_moment(args: &[&[u8]]) -> Result<u64, What>
+pub fn one_moment(args: &[&[u8]]) -> Result<u64, What>
     ensures { result ≡ one_number_at moment_limit (map (λ w. w.now) args.now) }
 {
     match args {

@@ -1,5 +1,5 @@
 use Rattle.ra_script.proofs.Lines.{front_found, rest_found, front_none, rest_none}
-use Rattle.ra_script.proofs.reading.first_line.Goals as goal
+use Rattle.ra_script.proofs.script.first_line.Goals as goal
 
 pub returns-in-Some-clause-line : goal.returns-in-Some-clause-line
 returns-in-Some-clause-line c = front_found c.args.text.now c.in-Some.at c.in-Some.ensures
