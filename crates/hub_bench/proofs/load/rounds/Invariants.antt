@@ -1,0 +1,8 @@
+use Rattle.std.proofs.Common.{◌<◌, All}
+use Rattle.ra_base.specs.declared.key.Seat.{Seat}
+use Rattle.hub_bench.proofs.load.rounds.Given as goal
+
+abbrev pub invariant-loop-round : goal.invariant-loop-round
+invariant-loop-round g l =
+    let seats = g.H.Hub.seats in
+    All (λ (s : Seat). 0 < seats l.hub s) l.seats

@@ -1,0 +1,11 @@
+pub mod Calling
+pub mod SessionMaps
+pub mod SweepLemmas
+pub mod AdmittedRows
+pub mod HubLemmas
+pub mod HubCalls
+pub mod SweptHubs
+pub mod SeatLemmas
+pub mod AdmittedHubs
+pub mod OthersLemmas
+mod HubRows

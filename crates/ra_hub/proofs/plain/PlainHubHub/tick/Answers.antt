@@ -1,0 +1,13 @@
+use Rattle.std.proofs.Common.{List, subst}
+use Rattle.ra_base.specs.declared.key.Key.{Key}
+use Rattle.ra_hub.specs.Sweeping.{TicksAll}
+use Rattle.ra_hub.specs.Sweeps.{AreDistinct}
+use Rattle.ra_hub.proofs.SweptHubs.{sweeps}
+use Rattle.ra_hub.proofs.plain.PlainHubHub.tick.Goals as goal
+
+pub returns-clause-told : goal.returns-clause-told
+returns-clause-told g c = λ h stands.
+    let hub = c.args.self.now in
+    sweeps hub.registry c.expire-expired.new.registry hub.sessions c.expire-expired.new.sessions c.tick_all-short.new.sessions hub.keys.items h c.args.now
+    c.expire-expired.result c.tick_all-short.result stands c.expire-expired.ensures.rows c.expire-expired.ensures.sessions
+    (subst (λ (keys : List Key). AreDistinct keys → TicksAll keys c.args.now c.tick_all-short.result c.expire-expired.new.sessions c.tick_all-short.new.sessions) c.as_slice.ensures.value c.tick_all-short.ensures)

@@ -1,0 +1,19 @@
+-- Why a request is answered by KeepFault.
+use Rattle.std.specs.Prelude.{ℕ, ◌≤◌, Result, Ok, Err}
+use Rattle.ra_keep.specs.Causes.{Rose}
+use Rattle.ra_hub.specs.declared.fault.HubFault.{HubFault}
+use Rattle.ra_hub.specs.declared.fault.HubFault.TheVariants.{Refused, NoSession, Session, KeepFault, NoMemory}
+
+-- the answer is that the keeper failed
+abbrev pub OnKeepFault : {T : Type 0} → Result T HubFault → Type 0 → Type 0
+OnKeepFault (Ok x) P = Unit {0}
+OnKeepFault (Err (Refused reason)) P = Unit {0}
+OnKeepFault (Err NoSession) P = Unit {0}
+OnKeepFault (Err (Session fault)) P = Unit {0}
+OnKeepFault (Err KeepFault) P = P
+OnKeepFault (Err NoMemory) P = Unit {0}
+
+-- the count of the keeper's faults never falls, and KeepFault is answered only where it rose
+pub record HasKeepCause {T : Type 0} (before after : ℕ) (result : Result T HubFault) : Type 0 where
+  pub later : before ≤ after
+  pub failed : OnKeepFault result (Rose before after)

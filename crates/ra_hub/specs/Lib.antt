@@ -1,0 +1,13 @@
+pub mod Faults
+pub mod HubCalls
+pub mod Hubs
+pub mod HubSeats
+pub mod JobLists
+pub mod Jobs
+pub mod KeepCauses
+pub mod Keeping
+pub mod OtherSessions
+pub mod Standing
+pub mod Sweeping
+pub mod Sweeps
+pub mod Tellings

@@ -1,0 +1,40 @@
+-- What a sweep makes of the sessions in memory, key by key.
+use Rattle.std.specs.Prelude.{◌≡◌, ℕ, Bool, true, List, length, Option, option_map, if◌then◌else◌}
+use Rattle.std.specs.BTreeMap.{BTreeMap}
+use Rattle.std.specs.List.{list_any}
+use Rattle.ra_base.specs.declared.key.Cause.TheVariants.{GraceOver}
+use Rattle.ra_base.specs.declared.key.Key.{Key}
+use Rattle.ra_registry.specs.declared.past.Past.{Past}
+use Rattle.ra_registry.specs.Rows.{same_key}
+use Rattle.ra_registry.specs.TableChanges.{has_key}
+use Rattle.ra_session.specs.Sessions.{Session}
+use Rattle.ra_session.specs.SessionCalls.{end_session}
+use Rattle.ra_session.specs.SessionStates.{SessionState}
+use Rattle.ra_hub.specs.Standing.{SessionsStand}
+use Rattle.ra_hub.specs.Sweeps.{AreDistinct, tick_one}
+
+abbrev pub ended_if : Bool → Session → Session
+ended_if over s = if over then end_session GraceOver s else s
+
+-- the sessions after those of these entries ended
+abbrev pub ended_in : List Past → (Key → Option Session) → Key → Option Session
+ended_in entries f key = option_map (ended_if (has_key entries key)) (f key)
+
+-- the sessions of these entries have ended
+abbrev pub EndsAll : List Past → BTreeMap Key SessionState → BTreeMap Key SessionState → Type 0
+EndsAll entries old new = (f : Key → Option Session) → SessionsStand old f → SessionsStand new (ended_in entries f)
+
+-- a session whose turn has come or not, and that found memory or not
+abbrev pub reached : (come left : Bool) → ℕ → Session → Session
+reached come left now s = if come then (if left then s else tick_one now s) else s
+
+abbrev pub ticked_in : List Key → List Key → ℕ → (Key → Option Session) → Key → Option Session
+ticked_in keys left now f key = option_map (reached (list_any (same_key key) keys) (list_any (same_key key) left) now) (f key)
+
+-- the sessions of these keys have seen the moment, but for those in `left`
+pub record TicksAll (keys : List Key) (now short : ℕ) (old new : BTreeMap Key SessionState) : Type 0 where
+  pub left : List Key
+  pub counted : short ≡ length left
+  pub once : AreDistinct left
+  pub among : (key : Key) → list_any (same_key key) left ≡ true → list_any (same_key key) keys ≡ true
+  pub sessions : (f : Key → Option Session) → SessionsStand old f → SessionsStand new (ticked_in keys left now f)

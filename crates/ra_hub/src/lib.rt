@@ -1,0 +1,21 @@
+//! All sessions of a server: who is admitted, what becomes of each session, and the jobs that they give.
+//!
+//! Links, bytes of a connection and handshakes are not here, and neither are threads.
+#![tactic(auto)]
+
+mod fault;
+pub mod hub;
+pub mod jobs;
+pub mod laws;
+mod plain;
+mod rows;
+mod sessions;
+mod starting;
+mod sweeping;
+#[cfg(test)]
+mod tests;
+
+pub use fault::{HubFault, StartFault};
+pub use hub::{Hub, Swept};
+pub use jobs::{Job, JobList, JobSink};
+pub use plain::PlainHub;
