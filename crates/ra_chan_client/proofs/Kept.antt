@@ -1,7 +1,7 @@
 -- The requests that wait.
 use Rattle.std.proofs.Common.{◌≡◌, ℕ, ℤ, w32, to_z, of_z, ◌<◌, ◌^◌, List, [], ◌∷◌, ◌++◌, map, Bool, not, refl, ap, ◌∙◌, arith, inl, inr}
 use Rattle.std.proofs.lemmas.Bool.{cases_Bool, cond_both}
-use Rattle.std.specs.Prelude.{◌==◌}
+use Rattle.std.specs.Prelude.{◌==◌, IsUtf8}
 use Rattle.std.specs.List.{AllByRecursion, filter}
 use Rattle.std.specs.Map.{values_of}
 use Rattle.ra_values.specs.Tree.{Tree}
@@ -14,11 +14,15 @@ use Rattle.ra_ipc.specs.declared.packet.Packet.{Packet}
 use Rattle.ra_chan_client.specs.Held.{Requests, AreRequests, messages}
 use Rattle.ra_chan_client.specs.View.{RequestFits}
 
-pub promise_fits : (id : ℕ) (channel name : List ℕ) (arg : Tree) → id < 2 ^ 31 → RequestFits channel name arg → MessageFits (promise id channel name arg)
-promise_fits id channel name arg small fits = (small, (omega arith, (omega arith, (omega arith, (fits.0, (fits.1, tt))))), fits.2)
+pub promise_fits : (id : ℕ) (channel name : List ℕ) (arg : Tree) → id < 2 ^ 31 → IsUtf8 channel → IsUtf8 name → RequestFits channel name arg
+    → MessageFits (promise id channel name arg)
+promise_fits id channel name arg small channel_is name_is fits =
+    (small, (omega arith, (omega arith, (omega arith, ((channel_is, fits.0), ((name_is, fits.1), tt))))), fits.2)
 
-pub listen_fits : (id : ℕ) (channel event : List ℕ) (arg : Tree) → id < 2 ^ 31 → RequestFits channel event arg → MessageFits (event_listen id channel event arg)
-listen_fits id channel event arg small fits = (small, (omega arith, (omega arith, (omega arith, (fits.0, (fits.1, tt))))), fits.2)
+pub listen_fits : (id : ℕ) (channel event : List ℕ) (arg : Tree) → id < 2 ^ 31 → IsUtf8 channel → IsUtf8 event → RequestFits channel event arg
+    → MessageFits (event_listen id channel event arg)
+listen_fits id channel event arg small channel_is event_is fits =
+    (small, (omega arith, (omega arith, (omega arith, ((channel_is, fits.0), ((event_is, fits.1), tt))))), fits.2)
 
 pub requests_push : (es : List (ℕ × Packet)) (i : ℕ) (p : Packet) → AreRequests es → Requests i (message p) → MessageFits (message p) → AreRequests (es ++ (i, p) ∷ [])
 requests_push [] i p h r f = (r, f, tt)

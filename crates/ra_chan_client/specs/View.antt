@@ -1,7 +1,7 @@
 -- How a contract sees what the calls of a channel client take and give.
-use Rattle.std.specs.Prelude.{ℕ, List, Option, Some, None, map, Bool, if◌then◌else◌}
+use Rattle.std.specs.Prelude.{ℕ, ◌<◌, ◌^◌, List, length, Option, Some, None, map, Bool, if◌then◌else◌}
 use Rattle.std.specs.List.{AllByRecursion}
-use Rattle.ra_values.specs.Tree.{Tree, text}
+use Rattle.ra_values.specs.Tree.{Tree}
 use Rattle.ra_values.specs.Spelling.{Fits, levels}
 use Rattle.ra_values.specs.View.{tree}
 use Rattle.ra_ipc.specs.Messages.{Message}
@@ -11,9 +11,9 @@ use Rattle.ra_ipc.specs.ChannelPackets.{Notice, ready, settled, fired}
 use Rattle.ra_chan_client.specs.declared.hearing.Heard.{Heard}
 use Rattle.ra_chan_client.specs.declared.hearing.Heard.TheVariants as heard
 
--- a channel, a name and an argument that can be written
+-- a text as a channel, one as a name, and an argument can be written
 abbrev pub RequestFits : List ℕ → List ℕ → Tree → Type 0
-RequestFits channel name arg = Fits levels (text channel) × Fits levels (text name) × Fits levels arg
+RequestFits channel name arg = (length channel < 2 ^ 32) × (length name < 2 ^ 32) × Fits levels arg
 
 -- a packet that goes out now, if the server is ready
 abbrev pub if_ready : Bool → Message → Option Message

@@ -11,9 +11,11 @@ mod ids;
 mod requests;
 #[cfg(test)]
 mod tests;
+mod text;
 mod waiting;
 
 pub use client::ChannelClient;
 pub use fault::ClientFault;
 pub use hearing::Heard;
 pub use requests::Issued;
+pub use text::is_text;

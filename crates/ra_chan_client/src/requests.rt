@@ -12,6 +12,7 @@ ghost use Rattle.ra_chan_client.specs.View.{RequestFits, if_ready};
 
 use crate::client::ChannelClient;
 use crate::fault::ClientFault;
+use crate::text::is_text;
 use crate::{ids, waiting};
 use ra_ipc::Packet;
 use ra_values::{NoMemory, Text, Value};
@@ -79,6 +80,8 @@ impl ChannelClient {
         if id >= IDS {
             return Err(ClientFault::IdsSpent);
         }
+        is_text(&channel);
+        is_text(&name);
         let packet = Packet::Promise {
             id: id.cast_signed(),
             channel,
@@ -108,6 +111,8 @@ impl ChannelClient {
         if id >= IDS {
             return Err(ClientFault::IdsSpent);
         }
+        is_text(&channel);
+        is_text(&event);
         let packet = Packet::EventListen {
             id: id.cast_signed(),
             channel,

@@ -14,8 +14,9 @@ use Rattle.ra_session.specs.Sessions.{Session}
 use Rattle.ra_session.specs.SessionStates.{SessionState, StandsForSession}
 use Rattle.ra_hub.specs.Hubs.{Hub, row, with_session, at_key, enter}
 use Rattle.ra_hub.specs.Standing.{AtSession, AreKeys, StandsForHub}
+use Rattle.ra_hub.specs.Running.{HubRuns}
 use Rattle.ra_hub.proofs.AdmittedRows.{rows_are, seat_admitted, admissions_stay}
-use Rattle.ra_hub.proofs.SessionMaps.{stand_set, stand_same}
+use Rattle.ra_hub.proofs.SessionMaps.{in_memory, stand_set, stand_same}
 
 -- ---- sessions
 
@@ -108,3 +109,7 @@ pub session_row : (registry : RegistryState) (sessions : BTreeMap Key SessionSta
     → StandsForHub registry sessions keys h → h.session key ≡ Some s → is_some (row h key) ≡ true
 session_row registry sessions keys h key s stands is =
     rows_are h.registry key ∙ or_right (is_some (start_row h.registry.start key)) (nat_lt 0 (admissions_of key h.registry.history)) (sym (stands.sessions_are key) ∙ ap is_some is)
+
+-- the sessions of a hub in memory run
+pub sessions_run : (registry : RegistryState) (sessions : BTreeMap Key SessionState) (keys : List Key) (h : Hub) → StandsForHub registry sessions keys h → HubRuns h
+sessions_run registry sessions keys h stands key s is = (in_memory sessions h.session key s stands.sessions_stand is).2.runs

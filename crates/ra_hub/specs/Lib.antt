@@ -7,6 +7,7 @@ pub mod Jobs
 pub mod KeepCauses
 pub mod Keeping
 pub mod OtherSessions
+pub mod Running
 pub mod Standing
 pub mod Sweeping
 pub mod Sweeps

@@ -11,6 +11,10 @@ ghost use Rattle.ra_registry.specs.Admission.{admission_refusal, key_of, seat_fo
 ghost use Rattle.ra_registry.specs.RegistryStates.{RegistryState};
 ghost use Rattle.ra_registry.specs.Rows.{same_key};
 ghost use Rattle.ra_session.specs.Sessions.{Session};
+ghost use Rattle.ra_session.specs.SessionStates.{SessionState};
+ghost use Rattle.std.specs.BTreeMap.{BTreeMap};
+ghost use Rattle.ra_hub.specs.Running.{HubRuns};
+ghost use Rattle.ra_hub.specs.Standing.{StandsForHub};
 ghost use Rattle.ra_hub.specs.Hubs.{Hub, started, at_key, admitted, refused, missed, seat_lost, seat_closed};
 ghost use Rattle.ra_hub.specs.OtherSessions.{IsSame, IsShortened, OfOthers, AgreeOn};
 
@@ -36,4 +40,10 @@ pub fn records_are_over()
     ensures { (long short : ℕ) (records : List Record) (i : ℕ) (d : Record) (ask : Request) (now : ℕ) → i < length records
         → same_key (slice_index_or records i d).key (key_of ask) ≡ true → is_some ask.kind ≡ true
         → admission_refusal (started long short records).registry ask now ≡ Some (if ask.reconnection then SeenBefore else Duplicate) }
+{}
+
+/// Of each session of a hub that `PlainHub` stands for: it has ended, or its endpoint has not.
+pub fn sessions_run()
+    ensures { (registry : RegistryState) (sessions : BTreeMap Key SessionState) (keys : List Key) (h : Hub)
+        → StandsForHub registry sessions keys h → HubRuns h }
 {}

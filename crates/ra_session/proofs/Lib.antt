@@ -10,3 +10,4 @@ pub mod TickSteps
 pub mod Beginning
 pub mod TurnLaws
 pub mod Roles
+pub mod LinkLaws

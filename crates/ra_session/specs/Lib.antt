@@ -5,6 +5,7 @@ pub mod SessionCalls
 pub mod Turns
 pub mod SessionRefusals
 pub mod TurnRefusals
+pub mod OnLinks
 pub mod SessionStates
 pub mod Faults
 pub mod View

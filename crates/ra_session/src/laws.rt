@@ -1,13 +1,14 @@
 //! What holds of every turn, and what the calls of a session leave as it is. Each function has an empty body: its clauses are what is
 //! proved.
-ghost use Rattle.std.specs.Prelude.{◌≡◌, ℕ, ◌+◌, ◌≤◌, Bool, true, false, None, Some, List, [], length};
+ghost use Rattle.std.specs.Prelude.{◌≡◌, ◌≢◌, ℕ, ◌+◌, ◌≤◌, Bool, true, false, None, Some, List, [], length};
 ghost use Rattle.ra_base.specs.declared.key.Cause.{Cause};
 ghost use Rattle.ra_values.specs.Tree.{Tree};
 ghost use Rattle.ra_model.specs.Endpoints.{is_linked};
 ghost use Rattle.ra_model.specs.FirstFrame.{first_frame, is_too_long};
 ghost use Rattle.ra_session.specs.Sessions.{Session, KeepsRole};
 ghost use Rattle.ra_session.specs.SessionCalls.{attach, feed_session, take_out, lose_session, call, listen, cancel, dispose, tick_session, leave_session, end_session};
-ghost use Rattle.ra_session.specs.SessionRefusals.{feed_refusal};
+ghost use Rattle.ra_session.specs.OnLinks.{IsOnLink, IsRunning};
+ghost use Rattle.ra_session.specs.SessionRefusals.{no_link, attach_refusal, feed_refusal};
 ghost use Rattle.ra_session.specs.SessionStates.{SessionState, StandsForSession};
 ghost use Rattle.ra_session.specs.Turns.{turn, turn_answer};
 ghost use Rattle.ra_session.specs.TurnRefusals.{turn_refusal};
@@ -42,6 +43,16 @@ pub fn nothing()
     ensures refused { (epoch now : ℕ) (s : Session) → s.peer.endpoint.unread ≡ [] → turn_refusal epoch [] now s ≡ feed_refusal epoch s }
     ensures took { (epoch now : ℕ) (s : Session) → s.peer.endpoint.unread ≡ [] → (turn_answer epoch [] now s).took ≡ false }
     ensures again { (epoch now : ℕ) (s : Session) → s.peer.endpoint.unread ≡ [] → (turn_answer epoch [] now s).again ≡ false }
+{}
+
+/// A session that runs is on the link that begins, and stays on it over its turns, until it ends. Such a turn is never refused for want
+/// of a link.
+pub fn on_link()
+    ensures runs { (h : SessionState) (s : Session) → StandsForSession h s → IsRunning s }
+    ensures begins { (epoch : ℕ) (chunk : List ℕ) (now : ℕ) (s : Session) → IsRunning s → attach_refusal epoch s ≡ None
+        → IsOnLink epoch (attach epoch chunk now s) }
+    ensures stays { (epoch : ℕ) (piece : List ℕ) (now : ℕ) (s : Session) → IsOnLink epoch s → IsOnLink epoch (turn epoch piece now s) }
+    ensures linked { (epoch : ℕ) (piece : List ℕ) (now : ℕ) (s : Session) → IsOnLink epoch s → turn_refusal epoch piece now s ≢ Some no_link }
 {}
 
 /// A session keeps its kind, and which end it is.

@@ -26,7 +26,7 @@ use crate::packets::{body_of, say_one};
 use crate::session::{Session, running};
 use crate::values::{Outcome, SessionFault};
 use ra_base::{Message, Moment};
-use ra_chan_client::ChannelClient;
+use ra_chan_client::{ChannelClient, is_text};
 use ra_ipc::Packet;
 use ra_model::EndFault;
 use ra_proto::Endpoint;
@@ -81,6 +81,7 @@ fn request_parts(packet: Packet) -> Option<(Text, Text, Value)>
 }
 
 /// The call as the body of a message within the limit, and its parts again.
+#[tactic(auto, using(ra_chan_client::proofs::Kept::promise_fits))]
 fn sized_call(
     alloc: Global,
     id: i32,
@@ -88,12 +89,15 @@ fn sized_call(
     name: Text,
     arg: Value,
 ) -> Result<(Message, Text, Text, Value), SessionFault>
-    requires { MessageFits (promise (id_of id) channel name (tree arg)) }
+    requires id { id_of id < 2 ^ 31 }
+    requires fits { RequestFits channel name (tree arg) }
     ensures body { IfOk result (λ r. r.0 ≡ message_bytes (promise (id_of id) channel name (tree arg))) }
     ensures size { IfOk result (λ r. length r.0 ≤ body_limit) }
     ensures parts { IfOk result (λ r. (r.1 ≡ channel) × (r.2 ≡ name) × (r.3 ≡ arg)) }
     ensures refused { Refuses result (if_large (message_bytes (promise (id_of id) channel name (tree arg)) ∷ [])) }
 {
+    is_text(&channel);
+    is_text(&name);
     let packet = Packet::Promise {
         id,
         channel,
@@ -108,6 +112,7 @@ fn sized_call(
 }
 
 /// The listen as the body of a message within the limit, and its parts again.
+#[tactic(auto, using(ra_chan_client::proofs::Kept::listen_fits))]
 fn sized_listen(
     alloc: Global,
     id: i32,
@@ -115,12 +120,15 @@ fn sized_listen(
     event: Text,
     arg: Value,
 ) -> Result<(Message, Text, Text, Value), SessionFault>
-    requires { MessageFits (event_listen (id_of id) channel event (tree arg)) }
+    requires id { id_of id < 2 ^ 31 }
+    requires fits { RequestFits channel event (tree arg) }
     ensures body { IfOk result (λ r. r.0 ≡ message_bytes (event_listen (id_of id) channel event (tree arg))) }
     ensures size { IfOk result (λ r. length r.0 ≤ body_limit) }
     ensures parts { IfOk result (λ r. (r.1 ≡ channel) × (r.2 ≡ event) × (r.3 ≡ arg)) }
     ensures refused { Refuses result (if_large (message_bytes (event_listen (id_of id) channel event (tree arg)) ∷ [])) }
 {
+    is_text(&channel);
+    is_text(&event);
     let packet = Packet::EventListen {
         id,
         channel,

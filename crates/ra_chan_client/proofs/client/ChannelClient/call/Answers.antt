@@ -17,7 +17,7 @@ invariant_of-self-2 c =
       waiting_ids = c.in_ok-packet.ensures.waiting;
       requests = rw c.in_ok-packet.ensures.kept (cond_both c.self.inside.ready _ _ AreRequests (λ _. c.self.invariant.requests)
           (λ _. requests_push c.self.inside.waiting.entries c.self.inside.next _ c.self.invariant.requests same
-          (rw same (promise_fits c.self.inside.next c.args.channel c.args.name (tree c.args.arg) (omega (arith, c.if-id-ge-IDS.false)) c.requires))));
+          (rw same (promise_fits c.self.inside.next c.args.channel c.args.name (tree c.args.arg) (omega (arith, c.if-id-ge-IDS.false)) c.is_text.ensures c.is_text-2.ensures c.requires))));
     }
 
 pub returns-clause-fresh : goal.returns-clause-fresh
