@@ -1,5 +1,5 @@
 -- What the head of an opening comes to.
-use Rattle.std.proofs.Common.{◌≡◌, ℕ, ◌+◌, ◌≤◌, true, false, Option, Some, None, Result, Ok, Err, List, [], ◌∷◌, ◌++◌, refl, sym, ap, subst, ◌∙◌, arith, append_assoc}
+use Rattle.std.proofs.Common.{◌≡◌, ℕ, ◌+◌, ◌≤◌, Bool, true, false, Option, Some, None, Result, Ok, Err, List, [], ◌∷◌, ◌++◌, refl, sym, ap, subst, ◌∙◌, arith, append_assoc}
 use Rattle.ra_base.specs.declared.memory.NoMemory.{NoMemory}
 use Rattle.ra_upgrade.specs.declared.request_head.HeadFault.{HeadFault}
 use Rattle.ra_upgrade.specs.declared.request_head.HeadFault.TheVariants as head_faults
@@ -18,9 +18,9 @@ use Rattle.ra_opening.specs.declared.ends.OpeningEnd.TheVariants as ends
 use Rattle.ra_opening.specs.Openings.{Grounds, Opened, new_opened, begun, head_came, items_done, opened}
 use Rattle.ra_opening.specs.Openings.Stage.{Heading, Shaking, Over}
 use Rattle.ra_opening.specs.Stands.{IsUnopened, IsHeading, IsBegun}
-use Rattle.ra_opening.specs.Comes.{IsPart, RanShort, Ends, HasHead, IsKnownAt}
+use Rattle.ra_opening.specs.Comes.{IsPart, RanShort, Ends, HasHead, IsKnownAt, AsksFraming, IsNoMemory}
 use Rattle.ra_upgrade.specs.RequestHeads.{HeadIs}
-use Rattle.ra_items.proofs.HeadLemmas.{request_found}
+use Rattle.ra_items.proofs.HeadLemmas.{request_found, one_head}
 use Rattle.ra_opening.specs.Begins.{Draws, draws_for, draws_before, token_by, challenge_by, BeginsShake, AcceptsHead, RefusesHead}
 use Rattle.ra_opening.proofs.RunLemmas.{opened_is, item_by, read_part}
 
@@ -164,3 +164,44 @@ known_refused text fault (ends.BadHead told) before out refuses judged = known_b
 known_refused text fault (ends.Refused reason) before out refuses judged = absurd refuses
 known_refused text fault (ends.TooLong n) before out refuses judged = absurd refuses
 known_refused text fault ends.Left before out refuses judged = absurd refuses
+
+-- ---- framing
+
+abbrev found_at : Upgrade → ℕ → Result (Option (Upgrade × ℕ)) HeadFault
+found_at upgrade n = Ok (Some (upgrade, n))
+
+abbrev open_head : Result (Option (Upgrade × ℕ)) HeadFault
+open_head = Ok None
+
+abbrev bad_head : HeadFault → Result (Option (Upgrade × ℕ)) HeadFault
+bad_head fault = Err fault
+
+open_not_found : (upgrade : Upgrade) (n : ℕ) → open_head ≡ found_at upgrade n → ⊥
+open_not_found upgrade n is = absurd cc
+
+bad_not_found : (fault : HeadFault) (upgrade : Upgrade) (n : ℕ) → bad_head fault ≡ found_at upgrade n → ⊥
+bad_not_found fault upgrade n is = absurd cc
+
+abbrev skips : Upgrade → Result (Option (Upgrade × ℕ)) HeadFault → Bool
+skips otherwise (Ok None) = otherwise.skip_frames
+skips otherwise (Ok (Some found)) = found.0.skip_frames
+skips otherwise (Err fault) = otherwise.skip_frames
+
+pub waits_unframed : (text : List ℕ) → HeadIs text (Ok None) → AsksFraming text → ⊥
+waits_unframed text answer asks = open_not_found asks.upgrade asks.size (one_head text open_head (found_at asks.upgrade asks.size) answer asks.is_head)
+
+pub begun_unframed : (text : List ℕ) (upgrade : Upgrade) (n : ℕ) → HeadIs text (Ok (Some (upgrade, n))) → AsksFraming text → upgrade.skip_frames ≡ false
+begun_unframed text upgrade n answer asks =
+    ap (skips upgrade) (one_head text (found_at upgrade n) (found_at asks.upgrade asks.size) answer asks.is_head) ∙ asks.asks
+
+fault_unframed : (text : List ℕ) (fault : HeadFault) → HeadIs text (Err fault) → AsksFraming text → ⊥
+fault_unframed text fault answer asks =
+    bad_not_found fault asks.upgrade asks.size (one_head text (bad_head fault) (found_at asks.upgrade asks.size) answer asks.is_head)
+
+pub refused_unframed : (text : List ℕ) (fault : HeadFault) (end : OpeningEnd) (before out : List ℕ) → RefusesHead fault end before out
+    → ((fault ≡ head_faults.NoMemory → ⊥) → HeadIs text (Err fault)) → AsksFraming text → IsNoMemory end × (out ≡ before)
+refused_unframed text fault ends.NoMemory before out refuses judged asks = (tt, refuses)
+refused_unframed text fault (ends.BadHead told) before out refuses judged asks = absurd (fault_unframed text fault (judged refuses.1) asks)
+refused_unframed text fault (ends.Refused reason) before out refuses judged asks = absurd refuses
+refused_unframed text fault (ends.TooLong n) before out refuses judged asks = absurd refuses
+refused_unframed text fault ends.Left before out refuses judged asks = absurd refuses

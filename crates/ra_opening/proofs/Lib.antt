@@ -4,3 +4,4 @@ pub mod ShakeLemmas
 pub mod BeginLemmas
 pub mod PieceLemmas
 pub mod LawLemmas
+pub mod ServedLemmas

@@ -17,7 +17,7 @@ use Rattle.ra_opening.specs.declared.heading.Headed.{Headed}
 use Rattle.ra_opening.specs.declared.heading.Headed.TheVariants as headed
 use Rattle.ra_opening.specs.Openings.{Grounds}
 use Rattle.ra_opening.specs.Stands.{IsHeading, IsBegun}
-use Rattle.ra_opening.specs.Comes.{Ends, HasHead, IsKnownAt}
+use Rattle.ra_opening.specs.Comes.{Ends, HasHead, IsKnownAt, IsNoMemory}
 
 -- so many draws were made
 abbrev pub Draws : (ℕ → List ℕ) → (ℕ → List ℕ) → ℕ → Type 0
@@ -85,3 +85,9 @@ abbrev pub IsKnownIn : Headed → List ℕ → Type 0
 IsKnownIn headed.Waits text = HasHead text
 IsKnownIn (headed.Begun shake skip_frames) text = HasHead text
 IsKnownIn (headed.End end) text = IsKnownAt end text
+
+-- the link is to be framed, or memory ran out and nothing was written
+abbrev pub IsToBeFramed : Headed → (before out : List ℕ) → Type 0
+IsToBeFramed headed.Waits before out = ⊥
+IsToBeFramed (headed.Begun shake skip_frames) before out = skip_frames ≡ false
+IsToBeFramed (headed.End end) before out = IsNoMemory end × (out ≡ before)

@@ -1,7 +1,8 @@
 -- What a text comes to, for an opening in memory that has handled it.
-use Rattle.std.specs.Prelude.{◌≡◌, ℕ, ◌≤◌, Bool, List, ◌∷◌, ◌++◌, [], drop, ⊤}
+use Rattle.std.specs.Prelude.{◌≡◌, ◌≢◌, ℕ, ◌≤◌, Bool, false, List, ◌∷◌, ◌++◌, [], drop, Option, Some, Ok, ⊤}
 use Rattle.ra_base.specs.declared.handshake.Reason.{Reason}
 use Rattle.ra_base.specs.declared.handshake.Request.{Request}
+use Rattle.ra_base.specs.declared.kind.Kind.TheVariants.{Tunnel}
 use Rattle.ra_frame.specs.declared.reader.FrameFault.{FrameFault}
 use Rattle.ra_frame.specs.declared.reader.FrameFault.TheVariants as frame_faults
 use Rattle.ra_model.specs.declared.frame.Frame.{Frame}
@@ -17,6 +18,7 @@ use Rattle.ra_shake.specs.Server.{server_step, server_after}
 use Rattle.ra_shake.specs.States.{ServerState}
 use Rattle.ra_upgrade.specs.declared.request_head.HeadFault.{HeadFault}
 use Rattle.ra_upgrade.specs.declared.request_head.Upgrade.{Upgrade}
+use Rattle.ra_upgrade.specs.RequestHeads.{HeadIs}
 use Rattle.ra_opening.specs.declared.ends.OpeningEnd.{OpeningEnd}
 use Rattle.ra_opening.specs.declared.ends.OpeningEnd.TheVariants as ends
 use Rattle.ra_opening.specs.declared.ends.OpeningStep.{OpeningStep}
@@ -28,7 +30,8 @@ use Rattle.ra_opening.specs.declared.shaking.Controlled.TheVariants as controlle
 use Rattle.ra_opening.specs.Openings.{Grounds, Opened, new_opened, items_done, opened}
 use Rattle.ra_opening.specs.Openings.Stage.{Shaking, Asked, Over}
 use Rattle.ra_opening.specs.Verdicts.{refusal_bytes}
-use Rattle.ra_opening.specs.Stands.{OpeningState, Tells, IsWaiting, Stands}
+use Rattle.ra_opening.specs.declared.phase.Phase.{Phase}
+use Rattle.ra_opening.specs.Stands.{OpeningState, Tells, IsWaiting, Stands, NeedsFraming}
 
 -- the client has asked, and this is what stands behind its message
 pub record IsAsked (grounds : Grounds) (head : Head Upgrade HeadFault) (text before : List ℕ) (next : ℕ → List ℕ) (request : Request) (rest out : List ℕ) : Type 0 where
@@ -147,3 +150,34 @@ abbrev pub IsKnown : OpeningStep → List ℕ → Type 0
 IsKnown steps.Waits text = HasHead text
 IsKnown (steps.Ask request) text = HasHead text
 IsKnown (steps.End end) text = IsKnownAt end text
+
+-- ---- what is asked for
+
+-- a request is for no tunnel
+abbrev pub AsksServed : OpeningStep → Type 0
+AsksServed steps.Waits = ⊤
+AsksServed (steps.Ask request) = request.kind ≢ Some Tunnel
+AsksServed (steps.End end) = ⊤
+
+-- ---- framing
+
+-- the text begins with a head that asks for the messages of a framed stream
+pub record AsksFraming (text : List ℕ) : Type 0 where
+  pub upgrade : Upgrade
+  pub size : ℕ
+  pub is_head : HeadIs text (Ok (Some (upgrade, size)))
+  pub asks : upgrade.skip_frames ≡ false
+
+-- memory ran out
+abbrev pub IsNoMemory : OpeningEnd → Type 0
+IsNoMemory ends.NoMemory = ⊤
+IsNoMemory (ends.BadHead fault) = ⊥
+IsNoMemory (ends.Refused reason) = ⊥
+IsNoMemory (ends.TooLong n) = ⊥
+IsNoMemory ends.Left = ⊥
+
+-- the link waits to be framed, or memory ran out and nothing was written
+abbrev pub WaitsForFraming : OpeningStep → Phase → (before out : List ℕ) → Type 0
+WaitsForFraming steps.Waits phase before out = NeedsFraming phase
+WaitsForFraming (steps.Ask request) phase before out = ⊥
+WaitsForFraming (steps.End end) phase before out = IsNoMemory end × (out ≡ before)

@@ -93,6 +93,13 @@ NeedsFraming (phases.Held shake) = Unit {0}
 NeedsFraming (phases.Shaking shake) = ⊥
 NeedsFraming phases.Over = ⊥
 
+-- the handshake goes on
+abbrev pub IsInShake : Phase → Type 0
+IsInShake phases.Heading = ⊥
+IsInShake (phases.Held shake) = ⊥
+IsInShake (phases.Shaking shake) = Unit {0}
+IsInShake phases.Over = ⊥
+
 -- behind the head stands a handshake that is not over
 abbrev pub PhaseFits : Phase → Reader → Type 0
 PhaseFits phases.Heading reader = reader.behind_head ≡ false

@@ -7,7 +7,8 @@ ghost use Rattle.ra_upgrade.specs.declared.request_head.HeadFault.{HeadFault};
 ghost use Rattle.ra_upgrade.specs.declared.request_head.Upgrade.{Upgrade};
 ghost use Rattle.ra_opening.specs.Openings.{grounds_of};
 ghost use Rattle.ra_opening.specs.Stands.{IsUnopened};
-ghost use Rattle.ra_opening.specs.Begins.{BeginsShake, AcceptsHead, RefusesHead, Heads, Draws, token_by, draws_before, IsBegunIn, IsKnownIn};
+ghost use Rattle.ra_opening.specs.Begins.{BeginsShake, AcceptsHead, RefusesHead, Heads, Draws, token_by, draws_before, IsBegunIn, IsKnownIn, IsToBeFramed};
+ghost use Rattle.ra_opening.specs.Comes.{AsksFraming};
 
 use crate::ends::OpeningEnd;
 use crate::writing::write;
@@ -155,6 +156,7 @@ pub(crate) fn open_head<E: Entropy>(
         IsUnopened grounds head text before (E.draw entropy.old) reader.old out.old.items
         → Heads result grounds head text before (E.draw entropy.new) reader.new out.new.items }
     ensures known { IsKnownIn result reader.old.unread }
+    ensures framing { AsksFraming reader.old.unread → IsToBeFramed result out.old.items out.new.items }
     ensures begun { IsBegunIn result reader.new }
 {
     match reader.next_request(alloc) {

@@ -6,8 +6,8 @@ ghost use Rattle.ra_shake.specs.declared.settings.ShakeSettings.{ShakeSettings};
 ghost use Rattle.ra_upgrade.specs.declared.request_head.HeadFault.{HeadFault};
 ghost use Rattle.ra_upgrade.specs.declared.request_head.Upgrade.{Upgrade};
 ghost use Rattle.ra_opening.specs.Openings.{Grounds, grounds_of};
-ghost use Rattle.ra_opening.specs.Stands.{OpeningState, Stands, IsShaking, IsUnopened, IsFed, IsOpen, IsFinished, HasNoHead, PhaseFits, NeedsFraming, new_opening, framed_phase};
-ghost use Rattle.ra_opening.specs.Comes.{Comes, IsKnown};
+ghost use Rattle.ra_opening.specs.Stands.{OpeningState, Stands, IsShaking, IsUnopened, IsFed, IsOpen, IsFinished, HasNoHead, PhaseFits, IsInShake, NeedsFraming, new_opening, framed_phase};
+ghost use Rattle.ra_opening.specs.Comes.{Comes, IsKnown, AsksFraming, WaitsForFraming, AsksServed};
 
 use crate::ends::{OpeningEnd, OpeningStep};
 use crate::heading::{Headed, open_head};
@@ -61,7 +61,9 @@ fn go_on<G: Signer>(
         IsShaking grounds head text before next reader.old shake out.old.items
         → Comes result.step grounds head text before next (record { reader = reader.new; phase = result.phase })
         out.new.items }
+    ensures served { AsksServed result.step }
     ensures fits { PhaseFits result.phase reader.new }
+    ensures once { NeedsFraming result.phase → ⊥ }
     ensures open { result.step ≡ OpeningStep.Waits → result.phase ≢ Phase.Over }
 {
     match shake_on(alloc, reader, &mut shake, signer, out) {
@@ -88,6 +90,9 @@ fn begin<E: Entropy, G: Signer>(
         → Comes result.step grounds head text before (E.draw entropy.new)
         (record { reader = reader.new; phase = result.phase }) out.new.items }
     ensures known { IsKnown result.step reader.old.unread }
+    ensures framing { AsksFraming reader.old.unread
+        → WaitsForFraming result.step result.phase out.old.items out.new.items }
+    ensures served { AsksServed result.step }
     ensures fits { PhaseFits result.phase reader.new }
     ensures open { result.step ≡ OpeningStep.Waits → result.phase ≢ Phase.Over }
 {
@@ -123,6 +128,10 @@ fn take_piece<E: Entropy, G: Signer>(
         → Comes result.step grounds head text before (E.draw entropy.new)
         (record { reader = reader.new; phase = result.phase }) out.new.items }
     ensures known { phase ≡ Phase.Heading → IsKnown result.step reader.old.unread }
+    ensures framing { phase ≡ Phase.Heading → AsksFraming reader.old.unread
+        → WaitsForFraming result.step result.phase out.old.items out.new.items }
+    ensures once { IsInShake phase → NeedsFraming result.phase → ⊥ }
+    ensures served { AsksServed result.step }
     ensures fits { PhaseFits result.phase reader.new }
     ensures open { result.step ≡ OpeningStep.Waits → result.phase ≢ Phase.Over }
 {
@@ -201,6 +210,10 @@ impl Opening {
             Stands grounds head text before (E.draw entropy.old) self.old out.old.items
             → Comes result grounds head (text ++ piece.now) before (E.draw entropy.new) self.new out.new.items }
         ensures known { HasNoHead self.old → IsKnown result (self.old.reader.unread ++ piece.now) }
+        ensures framing { HasNoHead self.old → AsksFraming (self.old.reader.unread ++ piece.now)
+            → WaitsForFraming result self.new.phase out.old.items out.new.items }
+        ensures once { IsInShake self.old.phase → NeedsFraming self.new.phase → ⊥ }
+        ensures served { AsksServed result }
         ensures open { result ≡ OpeningStep.Waits → IsOpen self.new }
     {
         let phase = mem::replace(&mut self.phase, Phase::Over);

@@ -8,7 +8,7 @@ ghost use Rattle.ra_upgrade.specs.declared.request_head.HeadFault.{HeadFault};
 ghost use Rattle.ra_upgrade.specs.declared.request_head.Upgrade.{Upgrade};
 ghost use Rattle.ra_opening.specs.Openings.{Grounds, grounds_of};
 ghost use Rattle.ra_opening.specs.Stands.{IsShaking};
-ghost use Rattle.ra_opening.specs.Comes.{Finds, Answers, Refuses, Shakes, IsControl, found_of};
+ghost use Rattle.ra_opening.specs.Comes.{Finds, Answers, Refuses, Shakes, AsksServed, IsControl, found_of};
 
 use crate::ends::{OpeningEnd, OpeningStep};
 use crate::writing::{write_control, write_refusal};
@@ -126,6 +126,7 @@ pub(crate) fn shake_on<G: Signer>(
         → let grounds = grounds_of settings (G.signature_of signer.now) (G.counts signer.now) draw in
         IsShaking grounds head text before next reader.old shake.old out.old.items
         → Shakes result grounds head text before next reader.new shake.new out.new.items }
+    ensures served { AsksServed result }
     ensures open { result ≡ OpeningStep.Waits → shake.new.stage ≢ stages.Over }
     ensures behind { reader.new.behind_head ≡ true }
 {

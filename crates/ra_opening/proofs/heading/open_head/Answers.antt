@@ -1,6 +1,6 @@
 use Rattle.std.proofs.Common.{◌≡◌, true, [], Ok, Some, None, ap, ◌∙◌}
 use Rattle.ra_opening.specs.Openings.{Grounds}
-use Rattle.ra_opening.proofs.BeginLemmas.{head_waits, head_begun, head_short, head_refused, known_by, known_refused}
+use Rattle.ra_opening.proofs.BeginLemmas.{head_waits, head_begun, head_short, head_refused, known_by, known_refused, waits_unframed, begun_unframed, refused_unframed}
 use Rattle.ra_opening.proofs.heading.open_head.Goals as goal
 
 pub returns-in-Ok-None-clause-made : goal.returns-in-Ok-None-clause-made
@@ -46,3 +46,17 @@ returns-in-Ok-clause-known g c =
 pub returns-in-Err-clause-known : goal.returns-in-Err-clause-known
 returns-in-Err-clause-known g c =
     known_refused c.args.reader.now.unread c.in-Err.fault c.refuse_head.result c.args.out.now.items c.refuse_head.new.out.items c.refuse_head.ensures c.in-Err.ensures.refused
+
+pub returns-in-Ok-None-clause-framing : goal.returns-in-Ok-None-clause-framing
+returns-in-Ok-None-clause-framing g c = λ asks.
+    let found = rw c.in-Ok-None.field-0-is at c.in-Ok-None.ensures.found in
+    waits_unframed c.args.reader.now.unread found.0 asks
+
+pub returns-in-Ok-clause-framing : goal.returns-in-Ok-clause-framing
+returns-in-Ok-clause-framing g c = λ asks.
+    let found = rw c.in-Ok-Some.field-0-is at c.in-Ok-Some.ensures.found in
+    begun_unframed c.args.reader.now.unread c.in-Ok-Some.upgrade found.0 found.1 asks
+
+pub returns-in-Err-clause-framing : goal.returns-in-Err-clause-framing
+returns-in-Err-clause-framing g c = λ asks.
+    refused_unframed c.args.reader.now.unread c.in-Err.fault c.refuse_head.result c.args.out.now.items c.refuse_head.new.out.items c.refuse_head.ensures c.in-Err.ensures.refused asks

@@ -1,4 +1,5 @@
 use Rattle.ra_opening.specs.Openings.{Grounds, grounds_of}
+use Rattle.ra_opening.proofs.ServedLemmas.{asks_served}
 use Rattle.ra_opening.proofs.ShakeLemmas.{asked, refused, unanswered, goes_on}
 use Rattle.ra_opening.proofs.shaking.shake_on.Goals as goal
 
@@ -51,3 +52,8 @@ controls-preserved g c =
     c.controls.invariant c.in-Control.ensures.behind
     (λ grounds head text before next x. c.in-Control.ensures.found grounds head text before next c.controls.shake c.controls.out.items x)
     (rw c.as_slice.ensures at c.in-Said.ensures)
+
+pub returns-in-Ask-clause-served : goal.returns-in-Ask-clause-served
+returns-in-Ask-clause-served g c =
+    let answer = rw c.as_slice.ensures at c.in-Ask.ensures in
+    asks_served (g.G.Signer.signature_of c.args.signer.now) (g.G.Signer.counts c.args.signer.now) c.controls.shake c.in-Control.body c.in-Ask.request answer.0
