@@ -1,0 +1,173 @@
+-- A link takes nothing back.
+use Rattle.std.proofs.Common.{◌≡◌, ℕ, zero, suc, Bool, true, false, Option, Some, None, List, [], ◌∷◌, ◌++◌, if◌then◌else◌, refl, sym, ap, ◌∙◌, append_assoc, append-nil}
+use Rattle.ra_base.specs.declared.handshake.Reason.{Reason}
+use Rattle.ra_base.specs.declared.handshake.Request.{Request}
+use Rattle.ra_base.specs.declared.key.Cause.{Cause}
+use Rattle.ra_base.specs.declared.key.Cause.TheVariants.{BadIpc}
+use Rattle.ra_base.specs.declared.key.Seat.{Seat}
+use Rattle.ra_opening.specs.Verdicts.{refusal_bytes, acceptance_bytes}
+use Rattle.ra_registry.specs.Admission.{admission_refusal, seat_for}
+use Rattle.ra_session.specs.SessionRefusals.{Refusal, ended, stale, no_link, too_long, bad_ipc, too_large, ids_spent, no_such_call, wrong_kind, attach_refusal}
+use Rattle.ra_session.specs.Sessions.{Session}
+use Rattle.ra_session.specs.TurnRefusals.{turn_refusal}
+use Rattle.ra_session.specs.Turns.{TurnAnswer, turn_answer}
+use Rattle.ra_hub.specs.Hubs.{Hub}
+use Rattle.ra_hub.specs.Jobs.{SeenJob}
+use Rattle.ra_link.specs.HubEvents.{HubEvent, event_done, event_jobs, events_done, events_jobs}
+use Rattle.ra_link.specs.HubEvents.HubEvent.{Admit, Attach, Turn, Close}
+use Rattle.ra_link.specs.LinkRuns.{Serving, Welcome, End, Turned, writes, does, closes, ends_by, turn_refused, turn_ended, turn_made, turn_by, turn_in, turned, turned_again, turns_for, served, attached_by, attached_in, attached, welcomed, asked_by, asked}
+use Rattle.ra_link.specs.Makes.{Happens, Grows}
+
+-- ---- events
+
+pub events_both : (a b : List HubEvent) (h : Hub) → events_done (a ++ b) h ≡ events_done b (events_done a h)
+events_both [] b h = refl
+events_both (e ∷ a) b h = events_both a b (event_done e h)
+
+pub jobs_both : (a b : List HubEvent) (h : Hub) → events_jobs (a ++ b) h ≡ events_jobs a h ++ events_jobs b (events_done a h)
+jobs_both [] b h = refl
+jobs_both (e ∷ a) b h =
+    ap (λ (l : List SeenJob). event_jobs e h ++ l) (jobs_both a b (event_done e h))
+    ∙ sym (append_assoc (event_jobs e h) (events_jobs a (event_done e h)) (events_jobs b (events_done a (event_done e h))))
+
+-- ---- the order
+
+-- what happened says nothing of the bytes, the seat, the welcome and the end
+pub happens_same : (s : Serving) (out : List ℕ) (drawn : ℕ) (seat : Option Seat) (welcome : Option Welcome) (end : Option End)
+    → Happens s (record s { out = out; drawn = drawn; seat = seat; welcome = welcome; end = end })
+happens_same s out drawn seat welcome end =
+    record { more = []; events = sym (append-nil s.events); hub = refl; jobs = sym (append-nil s.jobs) }
+
+pub happens_trans : (s t u : Serving) → Happens s t → Happens t u → Happens s u
+happens_trans s t u a b = record {
+  more = a.more ++ b.more;
+  events = b.events ∙ ap (λ (l : List HubEvent). l ++ b.more) a.events ∙ append_assoc s.events a.more b.more;
+  hub = b.hub ∙ ap (events_done b.more) a.hub ∙ sym (events_both a.more b.more s.hub);
+  jobs =
+      b.jobs
+      ∙ ap (λ (l : List SeenJob). l ++ events_jobs b.more t.hub) a.jobs
+      ∙ ap (λ (h : Hub). (s.jobs ++ events_jobs a.more s.hub) ++ events_jobs b.more h) a.hub
+      ∙ append_assoc s.jobs (events_jobs a.more s.hub) (events_jobs b.more (events_done a.more s.hub))
+      ∙ ap (λ (l : List SeenJob). s.jobs ++ l) (sym (jobs_both a.more b.more s.hub));
+}
+
+pub happens_more : (s t u : Serving) → Happens s t → Grows t u → Happens s u
+happens_more s t u a b = happens_trans s t u a b.happens
+
+-- and so does what was written of the seat, the welcome and the end
+pub grows_same : (s : Serving) (seat : Option Seat) (welcome : Option Welcome) (end : Option End) → Grows s (record s { seat = seat; welcome = welcome; end = end })
+grows_same s seat welcome end = record { bytes = []; out = sym (append-nil s.out); happens = happens_same s s.out s.drawn seat welcome end }
+
+pub grows_refl : (s : Serving) → Grows s s
+grows_refl s = grows_same s s.seat s.welcome s.end
+
+pub grows_writes : (s : Serving) (bytes : List ℕ) (seat : Option Seat) (welcome : Option Welcome) (end : Option End)
+    → Grows s (record s { out = s.out ++ bytes; seat = seat; welcome = welcome; end = end })
+grows_writes s bytes seat welcome end = record { bytes = bytes; out = refl; happens = happens_same s (s.out ++ bytes) s.drawn seat welcome end }
+
+pub grows_does : (s : Serving) (e : HubEvent) (seat : Option Seat) (welcome : Option Welcome) (end : Option End)
+    → Grows s (record (does e s) { seat = seat; welcome = welcome; end = end })
+grows_does s e seat welcome end = record {
+  bytes = [];
+  out = sym (append-nil s.out);
+  happens = record { more = e ∷ []; events = refl; hub = refl; jobs = ap (λ (l : List SeenJob). s.jobs ++ l) (sym (append-nil (event_jobs e s.hub))) };
+}
+
+pub grows_trans : (s t u : Serving) → Grows s t → Grows t u → Grows s u
+grows_trans s t u a b = record {
+  bytes = a.bytes ++ b.bytes;
+  out = b.out ∙ ap (λ (l : List ℕ). l ++ b.bytes) a.out ∙ append_assoc s.out a.bytes b.bytes;
+  happens = happens_trans s t u a.happens b.happens;
+}
+
+-- ---- turns
+
+spoiled : (seat : Seat) (piece : List ℕ) (now : ℕ) (s : Serving) (end : End) → Grows s (ends_by end (closes seat BadIpc now (does (Turn seat piece now) s)))
+spoiled seat piece now s end =
+    grows_trans s (does (Turn seat piece now) s) (ends_by end (closes seat BadIpc now (does (Turn seat piece now) s)))
+    (grows_does s (Turn seat piece now) s.seat s.welcome s.end)
+    (grows_does (does (Turn seat piece now) s) (Close seat BadIpc now) None s.welcome (Some end))
+
+grows_refused : (refusal : Refusal) (seat : Seat) (piece : List ℕ) (now : ℕ) (s : Serving) → Grows s (turn_refused refusal seat piece now s)
+grows_refused (bad_ipc bad message) seat piece now s = spoiled seat piece now s _
+grows_refused (ended cause) seat piece now s = grows_same s _ _ _
+grows_refused (stale current) seat piece now s = grows_same s _ _ _
+grows_refused no_link seat piece now s = grows_same s _ _ _
+grows_refused (too_long n) seat piece now s = grows_same s _ _ _
+grows_refused (too_large n) seat piece now s = grows_same s _ _ _
+grows_refused ids_spent seat piece now s = grows_same s _ _ _
+grows_refused (no_such_call id) seat piece now s = grows_same s _ _ _
+grows_refused wrong_kind seat piece now s = grows_same s _ _ _
+
+pub grows_turn_ended : (cause : Option Cause) (again : Bool) (seat : Seat) (now : ℕ) (s : Serving) → Grows s (turn_ended cause again seat now s).after
+grows_turn_ended None again seat now s = grows_refl s
+grows_turn_ended (Some cause) again seat now s = grows_does s (Close seat cause now) _ _ _
+
+grows_made : (answer : TurnAnswer) (seat : Seat) (piece : List ℕ) (now : ℕ) (s : Serving) → Grows s (turn_made answer seat piece now s).after
+grows_made answer seat piece now s =
+    let v = does (Turn seat piece now) s in
+    let w = writes answer.out v in
+    grows_trans s v (turn_made answer seat piece now s).after (grows_does s (Turn seat piece now) s.seat s.welcome s.end)
+    (grows_trans v w (turn_made answer seat piece now s).after (grows_writes v answer.out s.seat s.welcome s.end) (grows_turn_ended answer.ended answer.again seat now w))
+
+grows_by : (refusal : Option Refusal) (answer : TurnAnswer) (seat : Seat) (piece : List ℕ) (now : ℕ) (s : Serving) → Grows s (turn_by refusal answer seat piece now s).after
+grows_by (Some refusal) answer seat piece now s = grows_refused refusal seat piece now s
+grows_by None answer seat piece now s = grows_made answer seat piece now s
+
+grows_in : (session : Option Session) (seat : Seat) (piece : List ℕ) (now : ℕ) (s : Serving) → Grows s (turn_in session seat piece now s).after
+grows_in None seat piece now s = grows_refl s
+grows_in (Some session) seat piece now s =
+    grows_by (turn_refusal seat.epoch piece now session) (turn_answer seat.epoch piece now session) seat piece now s
+
+pub grows_turned : (seat : Seat) (piece : List ℕ) (now : ℕ) (s : Serving) → Grows s (turned seat piece now s).after
+unfolding turned
+grows_turned seat piece now s = grows_in (s.hub.session seat.key) seat piece now s
+
+grows_if : (b : Bool) (s t u : Serving) → Grows s t → Grows s u → Grows s (if b then t else u)
+grows_if true s t u a b = a
+grows_if false s t u a b = b
+
+pub grows_again : (n : ℕ) (seat : Seat) (now : ℕ) (t : Turned) → Grows t.after (turned_again n seat now t)
+unfolding turned_again
+grows_again zero seat now t = grows_refl t.after
+grows_again (suc n) seat now t =
+    grows_if t.again t.after (turned_again n seat now (turned seat [] now t.after)) t.after
+    (grows_trans t.after (turned seat [] now t.after).after (turned_again n seat now (turned seat [] now t.after))
+    (grows_turned seat [] now t.after) (grows_again n seat now (turned seat [] now t.after)))
+    (grows_refl t.after)
+
+pub grows_served : (n : ℕ) (seat : Seat) (piece : List ℕ) (now : ℕ) (s : Serving) → Grows s (served n seat piece now s)
+unfolding served
+grows_served n seat piece now s =
+    grows_trans s (turned seat piece now s).after (turned_again n seat now (turned seat piece now s))
+    (grows_turned seat piece now s) (grows_again n seat now (turned seat piece now s))
+
+-- ---- requests
+
+grows_attached_by : (refusal : Option Refusal) (seat : Seat) (chunk : List ℕ) (now : ℕ) (s : Serving) → Grows s (attached_by refusal seat chunk now s)
+grows_attached_by (Some refusal) seat chunk now s = grows_same s _ _ _
+grows_attached_by None seat chunk now s =
+    grows_trans s (does (Attach seat chunk now) s) (served (turns_for chunk) seat [] now (does (Attach seat chunk now) s))
+    (grows_does s (Attach seat chunk now) s.seat s.welcome s.end) (grows_served (turns_for chunk) seat [] now (does (Attach seat chunk now) s))
+
+grows_attached_in : (session : Option Session) (seat : Seat) (chunk : List ℕ) (now : ℕ) (s : Serving) → Grows s (attached_in session seat chunk now s)
+grows_attached_in None seat chunk now s = grows_refl s
+grows_attached_in (Some session) seat chunk now s = grows_attached_by (attach_refusal seat.epoch session) seat chunk now s
+
+pub grows_attached : (seat : Seat) (chunk : List ℕ) (now : ℕ) (s : Serving) → Grows s (attached seat chunk now s)
+unfolding attached
+grows_attached seat chunk now s = grows_attached_in (s.hub.session seat.key) seat chunk now s
+
+pub grows_asked_by : (reason : Option Reason) (seat : Seat) (place : ℕ) (chunk : List ℕ) (now : ℕ) (s : Serving) → Grows s (asked_by reason seat place chunk now s)
+grows_asked_by (Some reason) seat place chunk now s = grows_writes s (refusal_bytes reason) _ _ _
+grows_asked_by None seat place chunk now s =
+    let v = welcomed seat place (writes (acceptance_bytes seat.key.kind) s) in
+    grows_trans s v (attached seat chunk now v) (grows_writes s (acceptance_bytes seat.key.kind) _ _ _) (grows_attached seat chunk now v)
+
+pub grows_asked : (request : Request) (place : ℕ) (chunk : List ℕ) (now : ℕ) (s : Serving) → Grows s (asked request place chunk now s)
+unfolding asked
+grows_asked request place chunk now s =
+    let v = does (Admit request now) s in
+    let after = asked_by (admission_refusal s.hub.registry request now) (seat_for s.hub.registry request) place chunk now v in
+    grows_trans s v after (grows_does s (Admit request now) s.seat s.welcome s.end)
+    (grows_asked_by (admission_refusal s.hub.registry request now) (seat_for s.hub.registry request) place chunk now v)

@@ -1,0 +1,9 @@
+pub mod GrowLemmas
+pub mod TurnLemmas
+pub mod AskLemmas
+pub mod CutLemmas
+pub mod PieceLemmas
+pub mod ServeLemmas
+pub mod LoopLemmas
+pub mod NeverUnlinked
+pub mod SeatLemmas

@@ -1,0 +1,72 @@
+-- The calls of a hub that a link makes, as events: what each makes of a hub, and the jobs that it gives.
+use Rattle.std.specs.Prelude.{ℕ, List, [], ◌∷◌, ◌++◌, Option, Some, None}
+use Rattle.ra_base.specs.declared.handshake.Reason.{Reason}
+use Rattle.ra_base.specs.declared.handshake.Request.{Request}
+use Rattle.ra_base.specs.declared.key.Cause.{Cause}
+use Rattle.ra_base.specs.declared.key.Key.{Key}
+use Rattle.ra_base.specs.declared.key.Seat.{Seat}
+use Rattle.ra_registry.specs.Admission.{admission_refusal}
+use Rattle.ra_session.specs.Hearing.{Happening, work, host, call_settled, event_fired}
+use Rattle.ra_session.specs.SessionCalls.{attach}
+use Rattle.ra_session.specs.SessionRefusals.{Refusal}
+use Rattle.ra_session.specs.Sessions.{Session}
+use Rattle.ra_session.specs.TurnRefusals.{turn_refusal}
+use Rattle.ra_session.specs.Turns.{TurnAnswer, turn, turn_answer}
+use Rattle.ra_hub.specs.Hubs.{Hub, at_key, admitted, refused, seat_lost, seat_closed}
+use Rattle.ra_hub.specs.Jobs.{SeenJob}
+
+pub data HubEvent : Type 0 where
+  Admit : Request → ℕ → HubEvent
+  Attach : Seat → List ℕ → ℕ → HubEvent
+  Turn : Seat → List ℕ → ℕ → HubEvent
+  Lose : Seat → ℕ → HubEvent
+  Close : Seat → Cause → ℕ → HubEvent
+
+abbrev pub judged_by : Option Reason → Request → ℕ → Hub → Hub
+judged_by None ask now h = admitted ask now h
+judged_by (Some reason) ask now h = refused ask now reason h
+
+-- what is made of a hub by its session, where there is one
+abbrev pub on_session : Option Session → (Session → Hub) → Hub → Hub
+on_session None change h = h
+on_session (Some s) change h = change s
+
+unfoldable pub event_done : HubEvent → Hub → Hub
+event_done (Admit ask now) h = judged_by (admission_refusal h.registry ask now) ask now h
+event_done (Attach seat chunk now) h = on_session (h.session seat.key) (λ s. at_key seat.key (attach seat.epoch chunk now s) h) h
+event_done (Turn seat piece now) h = on_session (h.session seat.key) (λ s. at_key seat.key (turn seat.epoch piece now s) h) h
+event_done (Lose seat now) h = on_session (h.session seat.key) (λ s. seat_lost seat now s h) h
+event_done (Close seat cause now) h = on_session (h.session seat.key) (λ s. seat_closed seat cause now s h) h
+
+-- work is a job
+abbrev pub jobs_of : Key → Option Happening → List SeenJob
+jobs_of key None = []
+jobs_of key (Some (work call)) = record { key = key; work = work call } ∷ []
+jobs_of key (Some (host body)) = record { key = key; work = host body } ∷ []
+jobs_of key (Some (call_settled id outcome)) = []
+jobs_of key (Some (event_fired id body)) = []
+
+-- a turn that is refused gives none
+abbrev pub turn_jobs : Option Refusal → TurnAnswer → Key → List SeenJob
+turn_jobs None answer key = jobs_of key answer.happening
+turn_jobs (Some refusal) answer key = []
+
+abbrev pub session_jobs : Option Session → Seat → List ℕ → ℕ → List SeenJob
+session_jobs None seat piece now = []
+session_jobs (Some s) seat piece now = turn_jobs (turn_refusal seat.epoch piece now s) (turn_answer seat.epoch piece now s) seat.key
+
+unfoldable pub event_jobs : HubEvent → Hub → List SeenJob
+event_jobs (Admit ask now) h = []
+event_jobs (Attach seat chunk now) h = []
+event_jobs (Turn seat piece now) h = session_jobs (h.session seat.key) seat piece now
+event_jobs (Lose seat now) h = []
+event_jobs (Close seat cause now) h = []
+
+-- events one after the other
+abbrev pub events_done : List HubEvent → Hub → Hub
+events_done [] h = h
+events_done (e ∷ es) h = events_done es (event_done e h)
+
+abbrev pub events_jobs : List HubEvent → Hub → List SeenJob
+events_jobs [] h = []
+events_jobs (e ∷ es) h = event_jobs e h ++ events_jobs es (event_done e h)

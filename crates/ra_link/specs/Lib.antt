@@ -1,0 +1,5 @@
+pub mod HubEvents
+pub mod LinkRuns
+pub mod Makes
+pub mod Cores
+pub mod Served
