@@ -1,0 +1,100 @@
+-- The clients of a world, one after the other.
+use Rattle.std.proofs.Common.{◌≡◌, inl, inr, ℕ, zero, suc, ◌<◌, ◌≤◌, Option, Some, None, Result, Ok, Err, OnErr, IfOk, List, [], ◌∷◌, length, refl, ap, sym, subst, arith}
+use Rattle.std.specs.Prelude.{ℤ, slice_set, slice_index_or, slice_get}
+use Rattle.ra_session.specs.declared.values.SessionFault.{SessionFault}
+use Rattle.ra_session.specs.SessionRefusals.{Refusal}
+use Rattle.ra_session.specs.Sessions.{Session}
+use Rattle.ra_base.specs.declared.memory.NoMemory.{NoMemory}
+use Rattle.ra_model.specs.Links.{at_number}
+use Rattle.ra_dial.specs.declared.values.DialAct.{DialAct}
+use Rattle.ra_dial.specs.declared.values.DialEvent.{DialEvent}
+use Rattle.ra_dial.specs.Acts.{act_of}
+use Rattle.ra_grand.specs.ClientStates.{ClientState, StandsForClient, StaysClient, Dials, Asks, IsNextId}
+use Rattle.ra_grand.specs.GrandClients.{Client, dialled, asked}
+use Rattle.ra_grand.specs.Crowds.{ClientsStand, ClientsStay, DialsAt, AsksAt, IsNextIdAt}
+use Rattle.ra_grand.specs.GrandStates.{IsIndex}
+
+pub count : (hs : List ClientState) (cs : List Client) → ClientsStand hs cs → length hs ≡ length cs
+count [] [] all = refl
+count [] (c ∷ cs) all = absurd all
+count (h ∷ hs) [] all = absurd all
+count (h ∷ hs) (c ∷ cs) all = ap (λ n. suc n) (count hs cs all.1)
+
+pub one : (hs : List ClientState) (cs : List Client) (n : ℕ) (d : ClientState) (c : Client) → ClientsStand hs cs → slice_get cs n ≡ Some c
+    → StandsForClient (slice_index_or hs n d) c
+one [] [] n d c all is = absurd cc
+one [] (x ∷ cs) n d c all is = absurd all
+one (h ∷ hs) [] n d c all is = absurd all
+one (h ∷ hs) (x ∷ cs) zero d c all is = subst (λ (y : Client). StandsForClient h y) (there_is is) all.0
+  where
+    there_is : {x c : Client} → ◌≡◌ {A = Option Client} (Some x) (Some c) → x ≡ c
+    there_is e = cc
+one (h ∷ hs) (x ∷ cs) (suc n) d c all is = one hs cs n d c all.1 is
+
+pub set_one : (hs : List ClientState) (cs : List Client) (n : ℕ) (h : ClientState) (c : Client) → ClientsStand hs cs → StandsForClient h c
+    → ClientsStand (slice_set hs n h) (slice_set cs n c)
+set_one [] [] n h c all is = all
+set_one [] (x ∷ cs) n h c all is = absurd all
+set_one (y ∷ hs) [] n h c all is = absurd all
+set_one (y ∷ hs) (x ∷ cs) zero h c all is = (is, all.1)
+set_one (y ∷ hs) (x ∷ cs) (suc n) h c all is = (all.0, set_one hs cs n h c all.1 is)
+
+-- one that is there
+pub there : (cs : List Client) (n : ℕ) → n < length cs → (c : Client) × (slice_get cs n ≡ Some c)
+there [] n less = absurd (omega (arith, less))
+there (c ∷ cs) zero less = (c, refl)
+there (c ∷ cs) (suc n) less = there cs n (omega (arith, less))
+
+pub same_one : (hs : List ClientState) (cs : List Client) (n : ℕ) (d h : ClientState) → ClientsStand hs cs → StaysClient (slice_index_or hs n d) h
+    → ClientsStand (slice_set hs n h) cs
+same_one [] [] n d h all stays = all
+same_one [] (x ∷ cs) n d h all stays = absurd all
+same_one (y ∷ hs) [] n d h all stays = absurd all
+same_one (y ∷ hs) (x ∷ cs) zero d h all stays = (stays x all.0, all.1)
+same_one (y ∷ hs) (x ∷ cs) (suc n) d h all stays = (all.0, same_one hs cs n d h all.1 stays)
+
+-- none has a number that is too large
+pub missing : (cs : List Client) (number many : ℕ) → many ≡ length cs → IsIndex number many None → at_number cs number ≡ None
+missing cs zero many is none = refl
+missing cs (suc n) many is (inl e) = absurd (omega (arith, e))
+missing cs (suc n) many is (inr large) = past cs n (omega (arith, is, large))
+  where
+    past : (cs : List Client) (n : ℕ) → length cs ≤ n → slice_get cs n ≡ None
+    past [] n less = refl
+    past (c ∷ cs) zero less = absurd (omega (arith, less))
+    past (c ∷ cs) (suc n) less = past cs n (omega (arith, less))
+
+pub dials_at : (r : Result DialAct NoMemory) (hs : List ClientState) (n : ℕ) (d h : ClientState) (event : DialEvent) (now : ℕ)
+    → IfOk r (λ act. Dials (slice_index_or hs n d) h event now (act_of act)) → IfOk r (λ act. DialsAt n event now (act_of act) hs (slice_set hs n h))
+dials_at (Ok act) hs n d h event now dials =
+    λ cs c all is reads.
+    let made = dials c (one hs cs n d c all is) reads in (made.0, set_one hs cs n h (dialled event now c) all made.1)
+dials_at (Err fault) hs n d h event now dials = dials
+
+pub stay_at : (r : Result DialAct NoMemory) (hs : List ClientState) (n : ℕ) (d h : ClientState) → OnErr r (StaysClient (slice_index_or hs n d) h)
+    → OnErr r (ClientsStay hs (slice_set hs n h))
+stay_at (Ok act) hs n d h stays = stays
+stay_at (Err fault) hs n d h stays = λ cs all. same_one hs cs n d h all stays
+
+-- the client that stands there is put back
+put_back : (cs : List Client) (n : ℕ) (c : Client) → slice_get cs n ≡ Some c → slice_set cs n c ≡ cs
+put_back [] n c is = refl
+put_back (x ∷ cs) zero c is = ap (λ y. y ∷ cs) (sym (there_is is))
+  where
+    there_is : {x c : Client} → ◌≡◌ {A = Option Client} (Some x) (Some c) → x ≡ c
+    there_is e = cc
+put_back (x ∷ cs) (suc n) c is = ap (λ ys. x ∷ ys) (put_back cs n c is)
+
+pub asks_in : {X : Type 0} → (r : Result X SessionFault) (hs : List ClientState) (n : ℕ) (d h : ClientState) (call : Session → Session) (refusal : Session → Option Refusal)
+    → Asks r (slice_index_or hs n d) h call refusal → AsksAt n r hs (slice_set hs n h) call refusal
+asks_in (Ok x) hs n d h call refusal asks =
+    λ cs c all is.
+    let made = asks c (one hs cs n d c all is) in (made.0, set_one hs cs n h (asked call c) all made.1)
+asks_in (Err fault) hs n d h call refusal asks =
+    λ cs c all is.
+    let made = asks c (one hs cs n d c all is) in
+    (made.0, subst (λ (ys : List Client). ClientsStand (slice_set hs n h) ys) (put_back cs n c is) (set_one hs cs n h c all made.1))
+
+pub next_id_in : (r : Result ℤ SessionFault) (hs : List ClientState) (n : ℕ) (d : ClientState) → IfOk r (λ id. IsNextId (slice_index_or hs n d) id) → IfOk r (λ id. IsNextIdAt n hs id)
+next_id_in (Ok id) hs n d next = λ cs c all is. next c (one hs cs n d c all is)
+next_id_in (Err fault) hs n d next = next

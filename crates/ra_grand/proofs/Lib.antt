@@ -1,0 +1,9 @@
+mod AskSteps
+mod ClientLinks
+mod CrowdLemmas
+mod DialSteps
+mod Flushing
+mod LastLemmas
+mod Regrounding
+mod Rows
+mod WorldSteps

@@ -1,0 +1,10 @@
+use Rattle.std.proofs.Common.{◌∙◌}
+use Rattle.ra_grand.proofs.Flushing.{handed_over, all_handed_over}
+use Rattle.ra_grand.proofs.client.Client.hand_over.Goals as goal
+
+pub returns-clause-stays : goal.returns-clause-stays
+returns-clause-stays c = handed_over _ _ _ c.take_out.result (c.self.view_is ∙ c.in_ok-put_held.ensures.ok) c.take_out.ensures.out c.take_out.ensures.stands
+
+pub returns-clause-done : goal.returns-clause-done
+returns-clause-done c is =
+    all_handed_over _ _ _ c.take_out.result (c.self.view_is ∙ c.in_ok-put_held.ensures.ok) (c.is_empty.ensures.0 is) (c.take_out.ensures.none (c.is_empty.ensures.0 is)) c.take_out.ensures.stands

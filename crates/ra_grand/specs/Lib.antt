@@ -1,0 +1,16 @@
+pub mod ClientStates
+pub mod Crowds
+pub mod Draws
+pub mod GrandClients
+pub mod GrandEffects
+pub mod GrandRefusals
+pub mod GrandRuns
+pub mod Grands
+pub mod GrandSweeps
+pub mod GrandStates
+pub mod GrandViews
+pub mod Lasts
+pub mod Marks
+pub mod ServedLinks
+pub mod SetUps
+pub mod Works

@@ -1,0 +1,113 @@
+-- The server's end of a link, when a piece comes to it or it is left: it is a served link, and what it writes is put on the link at once.
+use Rattle.std.specs.Prelude.{ℕ, ◌+◌, ◌-◌, ◌==◌, Bool, true, if◌then◌else◌, Option, Some, None, List, [], ◌∷◌, ◌++◌, length, take, drop}
+use Rattle.std.specs.Option.{is_some}
+use Rattle.ra_base.specs.declared.event.Side.TheVariants.{A, B}
+use Rattle.ra_base.specs.declared.handshake.Reason.{Reason}
+use Rattle.ra_base.specs.declared.key.Seat.{Seat}
+use Rattle.ra_model.specs.Links.{read_on, written_to}
+use Rattle.ra_registry.specs.Admission.{admission_refusal, seat_for}
+use Rattle.ra_hub.specs.Hubs.{Hub}
+use Rattle.ra_link.specs.HubEvents.{HubEvent, Admit, Attach, Turn, Lose, Close, event_done, events_done, events_jobs}
+use Rattle.ra_link.specs.LinkRuns.{Serving, piece_done, hub_left}
+use Rattle.ra_grand.specs.Draws.{draws_after, own_then, first_draws}
+use Rattle.ra_grand.specs.SetUps.{grounds}
+use Rattle.ra_grand.specs.GrandClients.{ServerEnd, GrandLink, seen}
+use Rattle.ra_grand.specs.Grands.{Grand, Found, put_link}
+use Rattle.ra_grand.specs.Marks.{Mark, whole, short, unticked}
+
+-- the draws of this link, and then those that the server makes next
+abbrev pub draw_at : GrandLink → Grand → ℕ → List ℕ
+draw_at l w = own_then l.server.drawn (draws_after w.drawn)
+
+-- the served link that stands here, with the hub and the jobs
+abbrev pub serving_at : GrandLink → Grand → Serving
+serving_at l w = record {
+  seat = l.server.seat;
+  welcome = l.server.welcome;
+  out = l.server.out;
+  drawn = length l.server.drawn;
+  events = [];
+  hub = w.hub;
+  jobs = w.jobs;
+  end = None;
+}
+
+-- what it becomes by a piece
+unfoldable pub served : List ℕ → GrandLink → Grand → Serving
+served bytes l w = piece_done (grounds (draw_at l w)) l.head (seen l) (record { bytes = bytes; now = w.now }) (serving_at l w)
+
+-- ---- where memory ran out
+
+-- the seat after an event of the hub
+abbrev pub seat_if : Option Reason → Seat → Option Seat → Option Seat
+seat_if None given seat = Some given
+seat_if (Some reason) given seat = seat
+
+abbrev pub seat_by : HubEvent → Hub → Option Seat → Option Seat
+seat_by (Admit request now) h seat = seat_if (admission_refusal h.registry request now) (seat_for h.registry request) seat
+seat_by (Attach own chunk now) h seat = seat
+seat_by (Turn own piece now) h seat = seat
+seat_by (Lose own now) h seat = None
+seat_by (Close own cause now) h seat = None
+
+abbrev pub seat_after : List HubEvent → Hub → Option Seat → Option Seat
+seat_after [] h seat = seat
+seat_after (e ∷ es) h seat = seat_after es (event_done e h) (seat_by e h seat)
+
+-- The link comes so far from the one to the other: so many draws, these events, and so many bytes. A welcome comes with the first event.
+abbrev pub came : ℕ → List HubEvent → ℕ → Serving → Serving → Serving
+came draws events bytes s u = record s {
+  seat = seat_after events s.hub s.seat;
+  welcome = if length events == 0 then s.welcome else u.welcome;
+  out = s.out ++ take bytes (drop (length s.out) u.out);
+  drawn = s.drawn + draws;
+  events = events;
+  hub = events_done events s.hub;
+  jobs = s.jobs ++ events_jobs events s.hub;
+}
+
+-- ---- its end
+
+-- a served link, and whether it is over
+pub record Came : Type 0 where
+  pub link : Serving
+  pub is_over : Bool
+
+abbrev pub came_whole : Serving → Came
+came_whole u = record { link = u; is_over = is_some u.end }
+
+abbrev pub came_by : Mark → Serving → Serving → Came
+came_by whole s u = came_whole u
+came_by (short draws calls bytes) s u = record { link = came draws (take calls u.events) bytes s u; is_over = true }
+came_by (unticked keys) s u = came_whole u
+
+-- a link that is left loses its seat
+abbrev pub left : ℕ → Serving → Serving
+left now s = record s { seat = None; hub = hub_left s.seat now s.hub }
+
+-- a link that is over is left
+abbrev pub settled : ℕ → Came → Serving
+settled now c = if c.is_over then left now c.link else c.link
+
+abbrev pub server_of : (ℕ → List ℕ) → Bool → Serving → ServerEnd
+server_of draw is_over s = record { seat = s.seat; welcome = s.welcome; out = s.out; drawn = first_draws s.drawn draw; is_over = is_over }
+
+-- all of it after n bytes were read: the link, the hub, the jobs and the draws
+abbrev pub put_served : ℕ → Bool → Serving → Found → Grand → Grand
+put_served n is_over s f w =
+    put_link f
+    (record {
+      link = written_to A (drop (length f.link.server.out) s.out) (read_on B n f.link.link);
+      head = f.link.head;
+      server = server_of (draw_at f.link w) is_over s;
+    })
+    (record w { hub = s.hub; jobs = s.jobs; drawn = w.drawn + (s.drawn - length f.link.server.drawn) })
+
+-- a piece comes
+unfoldable pub piece_came : Mark → List ℕ → Found → Grand → Grand
+piece_came mark bytes f w =
+    let c = came_by mark (serving_at f.link w) (served bytes f.link w) in put_served (length bytes) c.is_over (settled w.now c) f w
+
+-- the server's end is left
+unfoldable pub server_left : Found → Grand → Grand
+server_left f w = put_served 0 true (left w.now (serving_at f.link w)) f w
