@@ -19,13 +19,13 @@ use Rattle.ra_hub.specs.Hubs.{Hub, at_key, admitted, refused}
 use Rattle.ra_hub.specs.Jobs.{SeenJob}
 use Rattle.ra_hub.specs.declared.fault.HubFault.{HubFault}
 use Rattle.ra_hub.specs.declared.fault.HubFault.TheVariants as hub_faults
-use Rattle.ra_link.specs.HubEvents.{event_done, event_jobs, on_session, judged_by}
+use Rattle.ra_link.specs.HubEvents.{event_done, event_jobs, on_session, judged_by, seat_judged_by, seat_by}
 use Rattle.ra_link.specs.HubEvents.HubEvent.{Admit, Attach}
 use Rattle.ra_link.specs.LinkRuns.{Serving, request_refused, refused_by, writes, does, ends_by, served, turns_for, attached_by, attached_in, attached, welcomed, asked_by, asked}
 use Rattle.ra_link.specs.Makes.{Base, Happens, Grows, IsGoing, IsEnded, IsUnkept, IsShort, Makes, RefusesRequest, outcome_of, over_by, session_end, hub_end}
 use Rattle.ra_link.specs.declared.ends.CoreEnd.TheVariants as ends
 use Rattle.ra_link.specs.declared.turns.Step.{Step}
-use Rattle.ra_link.proofs.GrowLemmas.{happens_more, grows_trans, grows_same, grows_writes, grows_does, grows_attached, grows_asked}
+use Rattle.ra_link.proofs.GrowLemmas.{happens_more, grows_trans, grows_writes, grows_does, grows_attached, grows_asked}
 use Rattle.ra_link.proofs.TurnLemmas.{stays_refused, short_at}
 
 -- ---- the session begins
@@ -141,18 +141,17 @@ welcomes kind seat place stands jobs base out out' v is wrote going =
       end_is = going.end_is;
     }
 
-pub grows_welcomed : (seat : Seat) (place : ℕ) (v : Serving) → Grows v (welcomed seat place (writes (acceptance_bytes seat.key.kind) v))
-grows_welcomed seat place v = grows_writes v (acceptance_bytes seat.key.kind) _ _ _
+pub grows_welcomed : (seat : Seat) (place : ℕ) (v : Serving) → Grows (record v { seat = Some seat }) (welcomed seat place (writes (acceptance_bytes seat.key.kind) v))
+grows_welcomed seat place v = grows_writes (record v { seat = Some seat }) (acceptance_bytes seat.key.kind) _ _
 
 pub unwelcomed : (seat : Seat) (place : ℕ) (chunk : List ℕ) (now : ℕ) (stands : Hub → Type 0) (jobs : Option (List SeenJob)) (base : Base) (out out' : List ℕ) (s v : Serving)
-    → out' ≡ out → IsGoing (Some seat) stands jobs base out (record v { seat = Some seat }) → Happens s v
+    → out' ≡ out → IsGoing (Some seat) stands jobs base out (record v { seat = Some seat }) → Happens s (record v { seat = Some seat })
     → IsShort (Some seat) stands jobs base out' s (attached seat chunk now (welcomed seat place (writes (acceptance_bytes seat.key.kind) v)))
 unwelcomed seat place chunk now stands jobs base out out' s v nothing going came =
     let p : Serving = record v { seat = Some seat } in
     let w = welcomed seat place (writes (acceptance_bytes seat.key.kind) v) in
-    short_at (Some seat) stands jobs jobs base out out' s p (attached seat chunk now w) going refl nothing
-    (happens_more s v p came (grows_same v _ _ _))
-    (grows_trans p w (attached seat chunk now w) (grows_writes p (acceptance_bytes seat.key.kind) _ _ _) (grows_attached seat chunk now w))
+    short_at (Some seat) stands jobs jobs base out out' s p (attached seat chunk now w) going refl nothing came
+    (grows_trans p w (attached seat chunk now w) (grows_writes p (acceptance_bytes seat.key.kind) _ _) (grows_attached seat chunk now w))
 
 -- ---- the request
 
@@ -219,6 +218,16 @@ admit_serves ask seat place chunk now old new jobs base out v told going =
     ∙ ap (λ (o : Option Reason). asked_by o (seat_for v.hub.registry ask) place chunk now w) (sym x.0)
     ∙ sym (asked_is ask place chunk now v)
 
+-- the seat is that of the admission
+pub admit_seat : (ask : Request) (seat : Seat) (now : ℕ) (old new : Hub → Type 0) (jobs : Option (List SeenJob)) (base : Base) (out : List ℕ) (v : Serving)
+    → ((h : Hub) → old h → Admits h ask now (Ok seat) new) → IsGoing None old jobs base out v → Some seat ≡ seat_by (Admit ask now) v.hub v.seat
+admit_seat ask seat now old new jobs base out v told going =
+    let x = told v.hub going.tells.hub_stands in
+    ap (λ (s : Seat). Some s) x.1 ∙ ap (λ (o : Option Reason). seat_judged_by o (seat_for v.hub.registry ask) v.seat) (sym x.0)
+
+refuse_seat : (ask : Request) (reason : Reason) (now : ℕ) (v : Serving) → admission_refusal v.hub.registry ask now ≡ Some reason → v.seat ≡ seat_by (Admit ask now) v.hub v.seat
+refuse_seat ask reason now v why = ap (λ (o : Option Reason). seat_judged_by o (seat_for v.hub.registry ask) v.seat) (sym why)
+
 -- it is not
 unasked : (ask : Request) (place : ℕ) (chunk : List ℕ) (now : ℕ) (old new : Hub → Type 0) (jobs : Option (List SeenJob)) (base : Base) (out out' : List ℕ) (s v : Serving)
     → new v.hub → out' ≡ out → IsGoing None old jobs base out v → Happens s v → IsShort None new jobs base out' s (asked ask place chunk now v)
@@ -232,15 +241,17 @@ unasked ask place chunk now old new jobs base out out' s v stands nothing going 
       comes = grows_asked ask place chunk now v;
     }
 
-unkept : (ask : Request) (place : ℕ) (chunk : List ℕ) (now : ℕ) (old new : Hub → Type 0) (jobs : Option (List SeenJob)) (base : Base) (out out' : List ℕ) (v : Serving)
-    → new v.hub → out' ≡ out → IsGoing None old jobs base out v → IsUnkept None new jobs base out' (asked ask place chunk now v)
-unkept ask place chunk now old new jobs base out out' v stands nothing going =
+unkept : (ask : Request) (place : ℕ) (chunk : List ℕ) (now : ℕ) (old new : Hub → Type 0) (jobs : Option (List SeenJob)) (base : Base) (out out' : List ℕ) (s v : Serving)
+    → new v.hub → out' ≡ out → IsGoing None old jobs base out v → Happens s v → IsUnkept None new jobs base out' s (asked ask place chunk now v)
+unkept ask place chunk now old new jobs base out out' s v stands nothing going came =
     let t = going.tells in
     record {
       part = v;
       tells = record { hub_stands = stands; jobs_are = t.jobs_are; out_is = t.out_is ∙ ap (λ (l : List ℕ). base.before ++ l) (sym nothing); draws_are = t.draws_are };
       seat_is = going.seat_is;
       none = refl;
+      came = came;
+      comes = grows_asked ask place chunk now v;
       request = ask;
       place = place;
       chunk = chunk;
@@ -295,8 +306,8 @@ refusal_unwritten ask reason place chunk now old new jobs base out out' s v why 
     let g = refused_going ask reason now old new jobs base out v why stands going in
     subst (λ (u : Serving). IsShort None new jobs base out' s u) (asked_refused ask reason place chunk now v why)
     (short_at None new jobs jobs base out out' s w (ends_by (request_refused reason) (writes (refusal_bytes reason) w)) g refl nothing
-    (happens_more s v w came (grows_does v (Admit ask now) v.seat v.welcome v.end))
-    (grows_writes w (refusal_bytes reason) _ _ _))
+    (happens_more s v w came (grows_does v (Admit ask now) v.seat v.welcome v.end (refuse_seat ask reason now v why)))
+    (grows_writes w (refusal_bytes reason) _ _))
 
 abbrev IsAnswered : Step → (new : Hub → Type 0) (jobs : Option (List SeenJob)) (base : Base) (out : List ℕ) (s u : Serving) → Type 0
 IsAnswered step new jobs base out s u = Makes (outcome_of step.end) step.seat new jobs base out s u
@@ -321,7 +332,7 @@ request_by (hub_faults.Refused reason) ask place chunk now old new jobs base out
 request_by hub_faults.NoSession ask place chunk now old new jobs base out out' s v step x r going came = absurd x
 request_by (hub_faults.Session fault) ask place chunk now old new jobs base out out' s v step x r going came = absurd x
 request_by hub_faults.KeepFault ask place chunk now old new jobs base out out' s v step x r going came =
-    subst (λ (y : Step). IsAnswered y new jobs base out' s (asked ask place chunk now v)) (sym r.0) (unkept ask place chunk now old new jobs base out out' v x r.1 going)
+    subst (λ (y : Step). IsAnswered y new jobs base out' s (asked ask place chunk now v)) (sym r.0) (unkept ask place chunk now old new jobs base out out' s v x r.1 going came)
 request_by hub_faults.NoMemory ask place chunk now old new jobs base out out' s v step x r going came =
     subst (λ (y : Step). IsAnswered y new jobs base out' s (asked ask place chunk now v)) (sym r.0) (unasked ask place chunk now old new jobs base out out' s v x r.1 going came)
 

@@ -40,11 +40,11 @@ none_by true n says text is = refl
 none_by false n (Ok says) text is = absurd cc
 none_by false n (Err fault) text is = absurd cc
 
-no_items : (head : Head Upgrade HeadFault) (text : List ℕ) → items head text ≡ [] → nat_lt (length text) head.size ≡ true
+pub no_items : (head : Head Upgrade HeadFault) (text : List ℕ) → items head text ≡ [] → nat_lt (length text) head.size ≡ true
 unfolding items
 no_items head text is = none_by (nat_lt (length text) head.size) head.size head.says text is
 
-open_items : (head : Head Upgrade HeadFault) (text : List ℕ) → nat_lt (length text) head.size ≡ true → items head text ≡ []
+pub open_items : (head : Head Upgrade HeadFault) (text : List ℕ) → nat_lt (length text) head.size ≡ true → items head text ≡ []
 unfolding items
 open_items head text is = ap (λ (b : Bool). items_by (answer_by b head.size head.says) text) is
 
@@ -94,7 +94,7 @@ shaking_by true g head text shake is stage =
     apart : Heading ≡ Shaking shake → ⊥
     apart e = cc
 
-waiting_behind : (g : Grounds) (head : Head Upgrade HeadFault) (text before : List ℕ) (next : ℕ → List ℕ) (reader : Reader) (shake : ServerState) (out : List ℕ)
+pub waiting_behind : (g : Grounds) (head : Head Upgrade HeadFault) (text before : List ℕ) (next : ℕ → List ℕ) (reader : Reader) (shake : ServerState) (out : List ℕ)
     → IsWaiting g head text before next reader shake out → nat_lt (length text) head.size ≡ false
 waiting_behind g head text before next reader shake out x =
     shaking_by (nat_lt (length text) head.size) g head text shake refl
@@ -114,7 +114,7 @@ asks_by (Ok upgrade) head raw is asks answer judged =
     record { upgrade = upgrade; size = head.size; is_head = subst (λ (r : Result (Option (Upgrade × ℕ)) HeadFault). HeadIs raw r) found answer; asks = asks_so upgrade.skip_frames asks }
 asks_by (Err fault) head raw is asks answer judged = absurd cc
 
-asks_frames : (head : Head Upgrade HeadFault) (raw : List ℕ) → IsRequestOf raw head → asks_framing head.says ≡ true → nat_lt (length raw) head.size ≡ false → AsksFraming raw
+pub asks_frames : (head : Head Upgrade HeadFault) (raw : List ℕ) → IsRequestOf raw head → asks_framing head.says ≡ true → nat_lt (length raw) head.size ≡ false → AsksFraming raw
 asks_frames head raw is asks judged = asks_by head.says head raw refl asks (whole_answer raw head is) judged
 
 -- ---- what counts
@@ -132,6 +132,7 @@ pub record IsCut (opening : OpeningState) (head : Head Upgrade HeadFault) (text 
   pub asks : AsksFraming (opening.reader.unread ++ piece)
   pub counts : with_piece head text piece ≡ take head.size (text ++ piece)
   pub early : nat_lt (length text) head.size ≡ true
+  pub judged : nat_lt (length (text ++ piece)) head.size ≡ false
 
 abbrev pub CutOrNot : OpeningState → Head Upgrade HeadFault → List ℕ → List ℕ → Type 0
 CutOrNot opening head text piece = (with_piece head text piece ≡ text ++ piece) ⊎ IsCut opening head text piece
@@ -146,6 +147,7 @@ cut_in phases.Heading g head text piece before next reader out is x unheld asks 
   asks = subst (λ (t : List ℕ). AsksFraming (t ++ piece)) x.waits.read.left (asks_frames head (text ++ piece) is asks judged);
   counts = with_by true true head text piece asks early;
   early = early;
+  judged = judged;
 }
 cut_in (phases.Held shake) g head text piece before next reader out is x unheld asks early judged = absurd (unheld tt)
 cut_in (phases.Shaking shake) g head text piece before next reader out is x unheld asks early judged =
@@ -230,12 +232,53 @@ held_asks_in (phases.Held shake) g head raw before next reader out x held =
 held_asks_in (phases.Shaking shake) g head raw before next reader out x held = absurd held
 held_asks_in phases.Over g head raw before next reader out x held = absurd held
 
--- ---- the head of the text that counts
+-- what counts is its head
+pub held_place : (phase : Phase) (g : Grounds) (head : Head Upgrade HeadFault) (raw before : List ℕ) (next : ℕ → List ℕ) (reader : Reader) (out : List ℕ)
+    → StandsIn phase g head raw before next reader out → NeedsFraming phase → length (counted_in phase reader.unread raw) ≡ head.size
+held_place phases.Heading g head raw before next reader out x held = absurd held
+held_place (phases.Held shake) g head raw before next reader out x held =
+    let first = first_item head raw x.upgrade x.place (items_ahead head x.place reader) (read_items head raw (head_at x.upgrade x.place ∷ []) x.place reader x.read) in
+    let size : length reader.unread ≡ length raw - x.place = ap length (sym x.read.left) ∙ length-drop x.place raw in
+    let n = length raw - length reader.unread in
+    length-take-le n raw (omega arith) ∙ omega (arith, x.read.within, first.place_is, size)
+held_place (phases.Shaking shake) g head raw before next reader out x held = absurd held
+held_place phases.Over g head raw before next reader out x held = absurd held
+
+-- and what is unread is what does not count
+pub held_unread : (phase : Phase) (g : Grounds) (head : Head Upgrade HeadFault) (raw before : List ℕ) (next : ℕ → List ℕ) (reader : Reader) (out : List ℕ)
+    → StandsIn phase g head raw before next reader out → NeedsFraming phase → raw ≡ counted_in phase reader.unread raw ++ reader.unread
+held_unread phases.Heading g head raw before next reader out x held = absurd held
+held_unread (phases.Held shake) g head raw before next reader out x held =
+    let size : length reader.unread ≡ length raw - x.place = ap length (sym x.read.left) ∙ length-drop x.place raw in
+    let place : x.place ≡ length raw - length reader.unread = omega (arith, x.read.within, size) in
+    sym (take-append-drop x.place raw) ∙ ap (λ (n : ℕ). take n raw ++ drop x.place raw) place
+    ∙ ap (λ (l : List ℕ). take (length raw - length reader.unread) raw ++ l) x.read.left
+held_unread (phases.Shaking shake) g head raw before next reader out x held = absurd held
+held_unread phases.Over g head raw before next reader out x held = absurd held
+
+-- ---- the text that counts only grows
 
 pub front_taken : (n : ℕ) (text piece : List ℕ) → length text < n → take n (text ++ piece) ≡ text ++ take (n - length text) piece
 front_taken n text piece more =
     let parts : n ≡ length text + (n - length text) = omega (arith, more) in
     ap (λ (k : ℕ). take k (text ++ piece)) parts ∙ take-append-add text piece (n - length text)
+
+pub record IsLonger (text whole : List ℕ) : Type 0 where
+  pub more : List ℕ
+  pub parts : whole ≡ text ++ more
+
+longer_by : (a b : Bool) (head : Head Upgrade HeadFault) (text piece : List ℕ) → asks_framing head.says ≡ a → nat_lt (length text) head.size ≡ b → IsLonger text (with_piece head text piece)
+longer_by false b head text piece asks early = record { more = piece; parts = with_by false b head text piece asks early }
+longer_by true false head text piece asks early = record { more = piece; parts = with_by true false head text piece asks early }
+longer_by true true head text piece asks early = record {
+  more = take (head.size - length text) piece;
+  parts = with_by true true head text piece asks early ∙ front_taken head.size text piece (ltb-true (length text) head.size early);
+}
+
+pub with_longer : (head : Head Upgrade HeadFault) (text piece : List ℕ) → IsLonger text (with_piece head text piece)
+with_longer head text piece = longer_by (asks_framing head.says) (nat_lt (length text) head.size) head text piece refl refl
+
+-- ---- the head of the text that counts
 
 sized_says : (says : Result Upgrade HeadFault) (n : ℕ) → asks_framing says ≡ true → sized n says ≡ Ok None → ⊥
 sized_says (Ok upgrade) n asks is = absurd cc

@@ -1,5 +1,5 @@
 -- A link takes nothing back.
-use Rattle.std.proofs.Common.{◌≡◌, ℕ, zero, suc, Bool, true, false, Option, Some, None, List, [], ◌∷◌, ◌++◌, if◌then◌else◌, refl, sym, ap, ◌∙◌, append_assoc, append-nil}
+use Rattle.std.proofs.Common.{◌≡◌, ℕ, zero, suc, ◌≤◌, Bool, true, false, Option, Some, None, List, [], ◌∷◌, ◌++◌, if◌then◌else◌, refl, sym, ap, ◌∙◌, append_assoc, append-nil, arith}
 use Rattle.ra_base.specs.declared.handshake.Reason.{Reason}
 use Rattle.ra_base.specs.declared.handshake.Request.{Request}
 use Rattle.ra_base.specs.declared.key.Cause.{Cause}
@@ -13,9 +13,9 @@ use Rattle.ra_session.specs.TurnRefusals.{turn_refusal}
 use Rattle.ra_session.specs.Turns.{TurnAnswer, turn_answer}
 use Rattle.ra_hub.specs.Hubs.{Hub}
 use Rattle.ra_hub.specs.Jobs.{SeenJob}
-use Rattle.ra_link.specs.HubEvents.{HubEvent, event_done, event_jobs, events_done, events_jobs}
+use Rattle.ra_link.specs.HubEvents.{HubEvent, event_done, event_jobs, events_done, events_jobs, seat_judged_by, seat_by, seats_by}
 use Rattle.ra_link.specs.HubEvents.HubEvent.{Admit, Attach, Turn, Close}
-use Rattle.ra_link.specs.LinkRuns.{Serving, Welcome, End, Turned, writes, does, closes, ends_by, turn_refused, turn_ended, turn_made, turn_by, turn_in, turned, turned_again, turns_for, served, attached_by, attached_in, attached, welcomed, asked_by, asked}
+use Rattle.ra_link.specs.LinkRuns.{Serving, Welcome, End, request_refused, Turned, writes, does, closes, ends_by, turn_refused, turn_ended, turn_made, turn_by, turn_in, turned, turned_again, turns_for, served, attached_by, attached_in, attached, welcomed, asked_by, asked}
 use Rattle.ra_link.specs.Makes.{Happens, Grows}
 
 -- ---- events
@@ -30,13 +30,20 @@ jobs_both (e ∷ a) b h =
     ap (λ (l : List SeenJob). event_jobs e h ++ l) (jobs_both a b (event_done e h))
     ∙ sym (append_assoc (event_jobs e h) (events_jobs a (event_done e h)) (events_jobs b (events_done a (event_done e h))))
 
+pub seats_both : (a b : List HubEvent) (h : Hub) (seat : Option Seat) → seats_by (a ++ b) h seat ≡ seats_by b (events_done a h) (seats_by a h seat)
+seats_both [] b h seat = refl
+seats_both (e ∷ a) b h seat = seats_both a b (event_done e h) (seat_by e h seat)
+
 -- ---- the order
 
--- what happened says nothing of the bytes, the seat, the welcome and the end
-pub happens_same : (s : Serving) (out : List ℕ) (drawn : ℕ) (seat : Option Seat) (welcome : Option Welcome) (end : Option End)
-    → Happens s (record s { out = out; drawn = drawn; seat = seat; welcome = welcome; end = end })
-happens_same s out drawn seat welcome end =
-    record { more = []; events = sym (append-nil s.events); hub = refl; jobs = sym (append-nil s.jobs) }
+-- what happened says nothing of the bytes, the welcome and the end
+pub happens_same : (s : Serving) (out : List ℕ) (drawn : ℕ) (welcome : Option Welcome) (end : Option End) → s.drawn ≤ drawn
+    → Happens s (record s { out = out; drawn = drawn; welcome = welcome; end = end })
+happens_same s out drawn welcome end later =
+    record { more = []; events = sym (append-nil s.events); hub = refl; jobs = sym (append-nil s.jobs); drawn = later; seat = refl }
+
+pub happens_refl : (s : Serving) → Happens s s
+happens_refl s = happens_same s s.out s.drawn s.welcome s.end (omega arith)
 
 pub happens_trans : (s t u : Serving) → Happens s t → Happens t u → Happens s u
 happens_trans s t u a b = record {
@@ -49,28 +56,41 @@ happens_trans s t u a b = record {
       ∙ ap (λ (h : Hub). (s.jobs ++ events_jobs a.more s.hub) ++ events_jobs b.more h) a.hub
       ∙ append_assoc s.jobs (events_jobs a.more s.hub) (events_jobs b.more (events_done a.more s.hub))
       ∙ ap (λ (l : List SeenJob). s.jobs ++ l) (sym (jobs_both a.more b.more s.hub));
+  drawn = omega (arith, a.drawn, b.drawn);
+  seat =
+      b.seat
+      ∙ ap (λ (h : Hub). seats_by b.more h t.seat) a.hub
+      ∙ ap (λ (o : Option Seat). seats_by b.more (events_done a.more s.hub) o) a.seat
+      ∙ sym (seats_both a.more b.more s.hub s.seat);
 }
 
 pub happens_more : (s t u : Serving) → Happens s t → Grows t u → Happens s u
 happens_more s t u a b = happens_trans s t u a b.happens
 
--- and so does what was written of the seat, the welcome and the end
-pub grows_same : (s : Serving) (seat : Option Seat) (welcome : Option Welcome) (end : Option End) → Grows s (record s { seat = seat; welcome = welcome; end = end })
-grows_same s seat welcome end = record { bytes = []; out = sym (append-nil s.out); happens = happens_same s s.out s.drawn seat welcome end }
+pub grows_same : (s : Serving) (welcome : Option Welcome) (end : Option End) → Grows s (record s { welcome = welcome; end = end })
+grows_same s welcome end = record { bytes = []; out = sym (append-nil s.out); happens = happens_same s s.out s.drawn welcome end (omega arith) }
 
 pub grows_refl : (s : Serving) → Grows s s
-grows_refl s = grows_same s s.seat s.welcome s.end
+grows_refl s = grows_same s s.welcome s.end
 
-pub grows_writes : (s : Serving) (bytes : List ℕ) (seat : Option Seat) (welcome : Option Welcome) (end : Option End)
-    → Grows s (record s { out = s.out ++ bytes; seat = seat; welcome = welcome; end = end })
-grows_writes s bytes seat welcome end = record { bytes = bytes; out = refl; happens = happens_same s (s.out ++ bytes) s.drawn seat welcome end }
+pub grows_writes : (s : Serving) (bytes : List ℕ) (welcome : Option Welcome) (end : Option End)
+    → Grows s (record s { out = s.out ++ bytes; welcome = welcome; end = end })
+grows_writes s bytes welcome end = record { bytes = bytes; out = refl; happens = happens_same s (s.out ++ bytes) s.drawn welcome end (omega arith) }
 
-pub grows_does : (s : Serving) (e : HubEvent) (seat : Option Seat) (welcome : Option Welcome) (end : Option End)
+-- an event, and the seat that it leaves
+pub grows_does : (s : Serving) (e : HubEvent) (seat : Option Seat) (welcome : Option Welcome) (end : Option End) → seat ≡ seat_by e s.hub s.seat
     → Grows s (record (does e s) { seat = seat; welcome = welcome; end = end })
-grows_does s e seat welcome end = record {
+grows_does s e seat welcome end leaves = record {
   bytes = [];
   out = sym (append-nil s.out);
-  happens = record { more = e ∷ []; events = refl; hub = refl; jobs = ap (λ (l : List SeenJob). s.jobs ++ l) (sym (append-nil (event_jobs e s.hub))) };
+  happens = record {
+    more = e ∷ [];
+    events = refl;
+    hub = refl;
+    jobs = ap (λ (l : List SeenJob). s.jobs ++ l) (sym (append-nil (event_jobs e s.hub)));
+    drawn = omega arith;
+    seat = leaves;
+  };
 }
 
 pub grows_trans : (s t u : Serving) → Grows s t → Grows t u → Grows s u
@@ -85,30 +105,30 @@ grows_trans s t u a b = record {
 spoiled : (seat : Seat) (piece : List ℕ) (now : ℕ) (s : Serving) (end : End) → Grows s (ends_by end (closes seat BadIpc now (does (Turn seat piece now) s)))
 spoiled seat piece now s end =
     grows_trans s (does (Turn seat piece now) s) (ends_by end (closes seat BadIpc now (does (Turn seat piece now) s)))
-    (grows_does s (Turn seat piece now) s.seat s.welcome s.end)
-    (grows_does (does (Turn seat piece now) s) (Close seat BadIpc now) None s.welcome (Some end))
+    (grows_does s (Turn seat piece now) s.seat s.welcome s.end refl)
+    (grows_does (does (Turn seat piece now) s) (Close seat BadIpc now) None s.welcome (Some end) refl)
 
 grows_refused : (refusal : Refusal) (seat : Seat) (piece : List ℕ) (now : ℕ) (s : Serving) → Grows s (turn_refused refusal seat piece now s)
 grows_refused (bad_ipc bad message) seat piece now s = spoiled seat piece now s _
-grows_refused (ended cause) seat piece now s = grows_same s _ _ _
-grows_refused (stale current) seat piece now s = grows_same s _ _ _
-grows_refused no_link seat piece now s = grows_same s _ _ _
-grows_refused (too_long n) seat piece now s = grows_same s _ _ _
-grows_refused (too_large n) seat piece now s = grows_same s _ _ _
-grows_refused ids_spent seat piece now s = grows_same s _ _ _
-grows_refused (no_such_call id) seat piece now s = grows_same s _ _ _
-grows_refused wrong_kind seat piece now s = grows_same s _ _ _
+grows_refused (ended cause) seat piece now s = grows_same s _ _
+grows_refused (stale current) seat piece now s = grows_same s _ _
+grows_refused no_link seat piece now s = grows_same s _ _
+grows_refused (too_long n) seat piece now s = grows_same s _ _
+grows_refused (too_large n) seat piece now s = grows_same s _ _
+grows_refused ids_spent seat piece now s = grows_same s _ _
+grows_refused (no_such_call id) seat piece now s = grows_same s _ _
+grows_refused wrong_kind seat piece now s = grows_same s _ _
 
 pub grows_turn_ended : (cause : Option Cause) (again : Bool) (seat : Seat) (now : ℕ) (s : Serving) → Grows s (turn_ended cause again seat now s).after
 grows_turn_ended None again seat now s = grows_refl s
-grows_turn_ended (Some cause) again seat now s = grows_does s (Close seat cause now) _ _ _
+grows_turn_ended (Some cause) again seat now s = grows_does s (Close seat cause now) _ _ _ refl
 
 grows_made : (answer : TurnAnswer) (seat : Seat) (piece : List ℕ) (now : ℕ) (s : Serving) → Grows s (turn_made answer seat piece now s).after
 grows_made answer seat piece now s =
     let v = does (Turn seat piece now) s in
     let w = writes answer.out v in
-    grows_trans s v (turn_made answer seat piece now s).after (grows_does s (Turn seat piece now) s.seat s.welcome s.end)
-    (grows_trans v w (turn_made answer seat piece now s).after (grows_writes v answer.out s.seat s.welcome s.end) (grows_turn_ended answer.ended answer.again seat now w))
+    grows_trans s v (turn_made answer seat piece now s).after (grows_does s (Turn seat piece now) s.seat s.welcome s.end refl)
+    (grows_trans v w (turn_made answer seat piece now s).after (grows_writes v answer.out s.welcome s.end) (grows_turn_ended answer.ended answer.again seat now w))
 
 grows_by : (refusal : Option Refusal) (answer : TurnAnswer) (seat : Seat) (piece : List ℕ) (now : ℕ) (s : Serving) → Grows s (turn_by refusal answer seat piece now s).after
 grows_by (Some refusal) answer seat piece now s = grows_refused refusal seat piece now s
@@ -145,10 +165,10 @@ grows_served n seat piece now s =
 -- ---- requests
 
 grows_attached_by : (refusal : Option Refusal) (seat : Seat) (chunk : List ℕ) (now : ℕ) (s : Serving) → Grows s (attached_by refusal seat chunk now s)
-grows_attached_by (Some refusal) seat chunk now s = grows_same s _ _ _
+grows_attached_by (Some refusal) seat chunk now s = grows_same s _ _
 grows_attached_by None seat chunk now s =
     grows_trans s (does (Attach seat chunk now) s) (served (turns_for chunk) seat [] now (does (Attach seat chunk now) s))
-    (grows_does s (Attach seat chunk now) s.seat s.welcome s.end) (grows_served (turns_for chunk) seat [] now (does (Attach seat chunk now) s))
+    (grows_does s (Attach seat chunk now) s.seat s.welcome s.end refl) (grows_served (turns_for chunk) seat [] now (does (Attach seat chunk now) s))
 
 grows_attached_in : (session : Option Session) (seat : Seat) (chunk : List ℕ) (now : ℕ) (s : Serving) → Grows s (attached_in session seat chunk now s)
 grows_attached_in None seat chunk now s = grows_refl s
@@ -158,16 +178,22 @@ pub grows_attached : (seat : Seat) (chunk : List ℕ) (now : ℕ) (s : Serving) 
 unfolding attached
 grows_attached seat chunk now s = grows_attached_in (s.hub.session seat.key) seat chunk now s
 
-pub grows_asked_by : (reason : Option Reason) (seat : Seat) (place : ℕ) (chunk : List ℕ) (now : ℕ) (s : Serving) → Grows s (asked_by reason seat place chunk now s)
-grows_asked_by (Some reason) seat place chunk now s = grows_writes s (refusal_bytes reason) _ _ _
-grows_asked_by None seat place chunk now s =
-    let v = welcomed seat place (writes (acceptance_bytes seat.key.kind) s) in
-    grows_trans s v (attached seat chunk now v) (grows_writes s (acceptance_bytes seat.key.kind) _ _ _) (grows_attached seat chunk now v)
+-- the link was admitted, or not
+grows_judged : (reason : Option Reason) (request : Request) (place : ℕ) (chunk : List ℕ) (now : ℕ) (s : Serving) → admission_refusal s.hub.registry request now ≡ reason
+    → Grows s (asked_by reason (seat_for s.hub.registry request) place chunk now (does (Admit request now) s))
+grows_judged (Some reason) request place chunk now s is =
+    let v = does (Admit request now) s in
+    let seat : s.seat ≡ seat_by (Admit request now) s.hub s.seat = ap (λ (o : Option Reason). seat_judged_by o (seat_for s.hub.registry request) s.seat) (sym is) in
+    grows_trans s v (ends_by (request_refused reason) (writes (refusal_bytes reason) v)) (grows_does s (Admit request now) s.seat s.welcome s.end seat)
+    (grows_writes v (refusal_bytes reason) _ _)
+grows_judged None request place chunk now s is =
+    let given = seat_for s.hub.registry request in
+    let v : Serving = record (does (Admit request now) s) { seat = Some given } in
+    let w = welcomed given place (writes (acceptance_bytes given.key.kind) (does (Admit request now) s)) in
+    let seat : Some given ≡ seat_by (Admit request now) s.hub s.seat = ap (λ (o : Option Reason). seat_judged_by o given s.seat) (sym is) in
+    grows_trans s v (attached given chunk now w) (grows_does s (Admit request now) (Some given) s.welcome s.end seat)
+    (grows_trans v w (attached given chunk now w) (grows_writes v (acceptance_bytes given.key.kind) _ _) (grows_attached given chunk now w))
 
 pub grows_asked : (request : Request) (place : ℕ) (chunk : List ℕ) (now : ℕ) (s : Serving) → Grows s (asked request place chunk now s)
 unfolding asked
-grows_asked request place chunk now s =
-    let v = does (Admit request now) s in
-    let after = asked_by (admission_refusal s.hub.registry request now) (seat_for s.hub.registry request) place chunk now v in
-    grows_trans s v after (grows_does s (Admit request now) s.seat s.welcome s.end)
-    (grows_asked_by (admission_refusal s.hub.registry request now) (seat_for s.hub.registry request) place chunk now v)
+grows_asked request place chunk now s = grows_judged (admission_refusal s.hub.registry request now) request place chunk now s refl

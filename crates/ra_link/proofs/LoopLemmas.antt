@@ -1,33 +1,37 @@
 -- The pieces of a connection, one after another.
-use Rattle.std.proofs.Common.{◌≡◌, ℕ, suc, ◌+◌, ◌-◌, ◌<◌, ◌≤◌, Bool, true, false, Option, Some, None, Ok, List, [], ◌∷◌, ◌++◌, length, take, inl, inr, refl, sym, ap, subst, ◌∙◌, arith, append_assoc, append-nil}
-use Rattle.std.specs.Prelude.{◌⊎◌}
+use Rattle.std.proofs.Common.{◌≡◌, ℕ, suc, ◌+◌, ◌-◌, ◌<◌, ◌≤◌, Bool, true, false, Option, Some, None, Ok, List, [], ◌∷◌, ◌++◌, length, take, drop, inl, inr, refl, sym, ap, subst, ◌∙◌, arith, append-nil}
+use Rattle.std.specs.Prelude.{◌⊎◌, ⊤, nat_lt}
 use Rattle.std.proofs.lemmas.List.{length-append}
 use Rattle.ra_base.specs.declared.key.Seat.{Seat}
 use Rattle.ra_items.specs.Heads.{Head, IsRequestOf}
 use Rattle.ra_upgrade.specs.declared.request_head.HeadFault.{HeadFault}
 use Rattle.ra_upgrade.specs.declared.request_head.Upgrade.{Upgrade}
-use Rattle.ra_opening.specs.Openings.{Grounds, Opened, opened}
+use Rattle.ra_opening.specs.Comes.{HasHead}
+use Rattle.ra_opening.specs.Openings.{Grounds, Opened, new_opened, opened}
 use Rattle.ra_opening.specs.Stands.{new_opening}
 use Rattle.ra_opening.proofs.RunLemmas.{opened_is}
 use Rattle.ra_opening.proofs.LawLemmas.{start}
 use Rattle.ra_items.specs.Items.{items}
 use Rattle.ra_ports.specs.Causes.{Rose, next_count}
-use Rattle.ra_ports.specs.Links.{Takes, got_bytes, has_ended, IsPiece}
+use Rattle.ra_ports.specs.Links.{Incoming, Takes, got_bytes, has_ended, IsPiece}
 use Rattle.ra_ports.specs.declared.link.Got.{Got}
 use Rattle.ra_ports.specs.declared.link.Got.TheVariants.{Bytes, NotYet, End as GotEnd}
 use Rattle.ra_hub.specs.Hubs.{Hub}
 use Rattle.ra_hub.specs.Jobs.{SeenJob}
-use Rattle.ra_link.specs.LinkRuns.{Serving, Piece, piece_done, link_run, with_piece, asks_framing, hub_left, new_serving}
+use Rattle.ra_link.specs.LinkRuns.{Serving, Piece, piece_done, link_run, with_piece, hub_left, new_serving}
 use Rattle.ra_link.specs.Makes.{Happens}
-use Rattle.ra_link.specs.Cores.{CoreStands, seat_in}
-use Rattle.ra_link.specs.Served.{LinkOutcome, link_closed, link_broke, link_spent, link_over, link_unkept, link_short, link_outcome, IsPieceEnd, IsSpent, ReadsAre, got_len, raised, bytes_of, counted, NowsAre, Serves, LinkEnds, AfterPiece, WasServed, IsServed, SoFar, Starts}
+use Rattle.ra_link.specs.Cores.{CoreStands, NotHeld, OnNoHead, IsBehindHead, seat_in}
+use Rattle.ra_link.specs.Pieces.{counted, NowsAre, HaveHead, is_framed, Come}
+use Rattle.ra_link.specs.Served.{LinkOutcome, link_closed, link_broke, link_spent, link_over, link_unkept, link_short, link_outcome, IsPieceEnd, IsSpent, ReadsAre, got_len, raised, CouldNotFrame, UnableBy, FramesBy, Frames, LinkKnows, Serves, LinkEnds, AfterPiece, WasServed, IsServed, SoFar, Starts}
 use Rattle.ra_link.specs.declared.ends.LinkEnd.{LinkEnd}
 use Rattle.ra_link.specs.declared.ends.LinkEnd.TheVariants as ends
 use Rattle.ra_link.specs.declared.phase.Phase.{Phase}
 use Rattle.ra_link.specs.declared.phase.Phase.TheVariants as phases
-use Rattle.ra_link.proofs.CutLemmas.{HasHeads, heads_so}
-use Rattle.ra_link.proofs.GrowLemmas.{happens_trans, happens_same, grows_refl}
-use Rattle.ra_link.proofs.PieceLemmas.{piece_happens}
+use Rattle.ra_link.proofs.CutLemmas.{HasHeads, heads_so, no_items}
+use Rattle.ra_link.proofs.ComeLemmas.{counted_more, come_more, come_stays, come_same, come_nothing}
+use Rattle.ra_link.proofs.GrowLemmas.{happens_refl, happens_trans, grows_refl}
+use Rattle.ra_link.proofs.KnownLemmas.{known_more, known_ended, known_stays, none_known}
+use Rattle.ra_link.proofs.PieceLemmas.{piece_happens, behind_more}
 use Rattle.ra_link.proofs.ServeLemmas.{core_going}
 
 -- ---- counts
@@ -59,6 +63,8 @@ ends_failed link_unkept first sent seat stands jobs F G start u why x = record {
   jobs_are = x.jobs_are;
   seat_is = x.seat_is;
   none = x.none;
+  came = x.came;
+  comes = x.comes;
   request = x.request;
   place = x.place;
   chunk = x.chunk;
@@ -75,18 +81,10 @@ after_failed (Some end) phase g head text next first sent stands jobs F G start 
 
 -- ---- one piece more
 
-pub counted_more : (head : Head Upgrade HeadFault) (before : List ℕ) (ps : List Piece) (p : Piece) → counted head before (ps ++ p ∷ []) ≡ with_piece head (counted head before ps) p.bytes
-counted_more head before [] p = refl
-counted_more head before (q ∷ qs) p = counted_more head (with_piece head before q.bytes) qs p
-
 pub run_more : (g : Grounds) (head : Head Upgrade HeadFault) (before : List ℕ) (ps : List Piece) (p : Piece) (s : Serving)
     → link_run g head before (ps ++ p ∷ []) s ≡ piece_done g head (counted head before ps) p (link_run g head before ps s)
 run_more g head before [] p s = refl
 run_more g head before (q ∷ qs) p s = run_more g head (with_piece head before q.bytes) qs p (piece_done g head before q s)
-
-bytes_more : (ps : List Piece) (p : Piece) → bytes_of (ps ++ p ∷ []) ≡ bytes_of ps ++ p.bytes
-bytes_more [] p = append-nil p.bytes
-bytes_more (q ∷ qs) p = ap (λ (l : List ℕ). q.bytes ++ l) (bytes_more qs p) ∙ sym (append_assoc q.bytes (bytes_of qs) p.bytes)
 
 length_more : (ps : List Piece) (p : Piece) → length (ps ++ p ∷ []) ≡ length ps + 1
 length_more ps p = length-append ps (p ∷ [])
@@ -95,15 +93,6 @@ nows_more : (moments : ℕ → ℕ) (first : ℕ) (ps : List Piece) (p : Piece) 
 nows_more moments first [] p nows is = (let e : first + 0 ≡ first = omega arith in is ∙ ap moments e, tt)
 nows_more moments first (q ∷ qs) p nows is =
     (nows.0, nows_more moments (first + 1) qs p nows.1 (let e : first + suc (length qs) ≡ (first + 1) + length qs = omega arith in is ∙ ap moments e))
-
-takes_both : (a b c : Option (List ℕ)) (x y : List ℕ) → Takes a b x → Takes b c y → Takes a c (x ++ y)
-takes_both a b c x y p q text is =
-    let r = p text is in
-    let t = q r.0 r.2 in
-    (t.0, r.1 ∙ ap (λ (l : List ℕ). x ++ l) t.1 ∙ sym (append_assoc x y t.0), t.2)
-
-takes_none : (a b c : Option (List ℕ)) (x : List ℕ) → Takes a b x → Takes b c [] → Takes a c x
-takes_none a b c x p q = subst (λ (l : List ℕ). Takes a c l) (append-nil x) (takes_both a b c x [] p q)
 
 -- ---- what the link gave
 
@@ -135,13 +124,13 @@ got_none GotEnd into is = refl
 -- ---- the link goes on no more
 
 -- nothing came, and the connection ends
-stops_there : (end : LinkEnd) (turn turns : ℕ) (g : Grounds) (start : Serving) (first : List ℕ) (moments : ℕ → ℕ) (left left_then left_now : Option (List ℕ)) (sent sent' : Option (List ℕ)) (phase : Phase) (next : ℕ → List ℕ)
+stops_there : (end : LinkEnd) (turn turns : ℕ) (g : Grounds) (start : Serving) (first : List ℕ) (moments : ℕ → ℕ) (incoming incoming_then incoming_now : Incoming) (sent sent' : Option (List ℕ)) (phase : Phase) (next : ℕ → List ℕ)
     (stands : Hub → Type 0) (jobs : Option (List SeenJob)) (tells : Bool) (clock : ℕ → ℕ) (then : ℕ) (failed : Type 0) (now : ℕ)
-    → SoFar turn g start first moments left left_then sent phase next stands jobs tells clock then → turn < turns → ReadsAre (link_outcome end) turn (turn + 1) turns
-    → (tells ≡ true → now ≡ clock 0) → sent' ≡ sent → Takes left_then left_now []
+    → SoFar turn g start first moments incoming incoming_then sent phase next stands jobs tells clock then → turn < turns → ReadsAre (link_outcome end) turn (turn + 1) turns
+    → (tells ≡ true → now ≡ clock 0) → sent' ≡ sent → Takes incoming_then.left incoming_now.left [] → incoming_now.payload ≡ incoming_then.payload
     → ((s : Serving) → Serves first sent (seat_in phase) stands jobs s → s.end ≡ None → LinkEnds (link_outcome end) first sent (seat_in phase) stands jobs failed start s)
-    → WasServed end g start first moments turns left left_now sent' (seat_in phase) stands jobs failed now
-stops_there end turn turns g start first moments left left_then left_now sent sent' phase next stands jobs tells clock then failed now s more reads clock_now same took ends =
+    → WasServed end g start first moments turns incoming incoming_now sent' (seat_in phase) stands jobs failed now
+stops_there end turn turns g start first moments incoming incoming_then incoming_now sent sent' phase next stands jobs tells clock then failed now s more reads clock_now same took keeps ends =
     let at_turn : moments (turn + 0) ≡ moments (turn + 1 - 1) = (let e : turn + 0 ≡ turn + 1 - 1 = omega arith in ap moments e) in
     record {
       pieces = s.pieces;
@@ -150,6 +139,7 @@ stops_there end turn turns g start first moments left left_then left_now sent se
       reads_are = subst (λ (n : ℕ). ReadsAre (link_outcome end) n (turn + 1) turns) (sym s.count) reads;
       nows = s.nows;
       now_is = λ some. clock_now s.told ∙ s.clock_is 0 ∙ at_turn;
+      known = known_stays end (HaveHead s.pieces) s.known;
       ran = λ head is.
           let a = s.at head is in
           let u = link_run g head [] s.pieces start in
@@ -158,18 +148,18 @@ stops_there end turn turns g start first moments left left_then left_now sent se
           ends u (record { sent_is = a.sent_is; hub_stands = x.tells.hub_stands; jobs_are = x.tells.jobs_are; seat_is = x.seat_is }) x.end_is in
           record {
             ended = subst (λ (o : Option (List ℕ)). LinkEnds (link_outcome end) first o (seat_in phase) stands jobs failed start u) (sym same) done;
-            came = λ asks. takes_none left left_then left_now (bytes_of s.pieces) (a.came asks) took;
+            came = come_stays (is_framed head (counted head [] s.pieces)) head s.pieces incoming incoming_then incoming_now (CouldNotFrame (link_outcome end)) a.came took keeps;
           };
     }
 
-pub failed_there : (turn turns : ℕ) (g : Grounds) (start : Serving) (first : List ℕ) (moments : ℕ → ℕ) (left left_then left_now : Option (List ℕ)) (sent sent' : Option (List ℕ)) (phase : Phase) (next : ℕ → List ℕ)
+pub failed_there : (turn turns : ℕ) (g : Grounds) (start : Serving) (first : List ℕ) (moments : ℕ → ℕ) (incoming incoming_then incoming_now : Incoming) (sent sent' : Option (List ℕ)) (phase : Phase) (next : ℕ → List ℕ)
     (stands : Hub → Type 0) (jobs : Option (List SeenJob)) (tells : Bool) (clock : ℕ → ℕ) (then : ℕ) (failed : Type 0) (now : ℕ)
-    → SoFar turn g start first moments left left_then sent phase next stands jobs tells clock then → turn < turns
-    → (tells ≡ true → now ≡ clock 0) → sent' ≡ sent → Takes left_then left_now []
-    → WasServed ends.LinkFault g start first moments turns left left_now sent' (seat_in phase) stands jobs failed now
-failed_there turn turns g start first moments left left_then left_now sent sent' phase next stands jobs tells clock then failed now s more clock_now same took =
-    stops_there ends.LinkFault turn turns g start first moments left left_then left_now sent sent' phase next stands jobs tells clock then failed now s more
-    (omega arith, omega arith) clock_now same took
+    → SoFar turn g start first moments incoming incoming_then sent phase next stands jobs tells clock then → turn < turns
+    → (tells ≡ true → now ≡ clock 0) → sent' ≡ sent → Takes incoming_then.left incoming_now.left [] → incoming_now.payload ≡ incoming_then.payload
+    → WasServed ends.LinkFault g start first moments turns incoming incoming_now sent' (seat_in phase) stands jobs failed now
+failed_there turn turns g start first moments incoming incoming_then incoming_now sent sent' phase next stands jobs tells clock then failed now s more clock_now same took keeps =
+    stops_there ends.LinkFault turn turns g start first moments incoming incoming_then incoming_now sent sent' phase next stands jobs tells clock then failed now s more
+    (omega arith, omega arith) clock_now same took keeps
     (λ u serves none. record {
       sent_is = record { front = u.out; sent_is = serves.sent_is; rest = []; parts = sym (append-nil u.out) };
       hub_stands = serves.hub_stands;
@@ -177,31 +167,32 @@ failed_there turn turns g start first moments left left_then left_now sent sent'
       seat_is = serves.seat_is;
     })
 
-pub closed_there : (turn turns : ℕ) (g : Grounds) (start : Serving) (first : List ℕ) (moments : ℕ → ℕ) (left left_then left_now : Option (List ℕ)) (sent sent' : Option (List ℕ)) (phase : Phase) (next : ℕ → List ℕ)
+pub closed_there : (turn turns : ℕ) (g : Grounds) (start : Serving) (first : List ℕ) (moments : ℕ → ℕ) (incoming incoming_then incoming_now : Incoming) (sent sent' : Option (List ℕ)) (phase : Phase) (next : ℕ → List ℕ)
     (stands : Hub → Type 0) (jobs : Option (List SeenJob)) (tells : Bool) (clock : ℕ → ℕ) (then : ℕ) (failed : Type 0) (now : ℕ)
-    → SoFar turn g start first moments left left_then sent phase next stands jobs tells clock then → turn < turns
-    → (tells ≡ true → now ≡ clock 0) → sent' ≡ sent → Takes left_then left_now []
-    → WasServed ends.Closed g start first moments turns left left_now sent' (seat_in phase) stands jobs failed now
-closed_there turn turns g start first moments left left_then left_now sent sent' phase next stands jobs tells clock then failed now s more clock_now same took =
-    stops_there ends.Closed turn turns g start first moments left left_then left_now sent sent' phase next stands jobs tells clock then failed now s more
-    refl clock_now same took (λ u serves none. (serves, none))
+    → SoFar turn g start first moments incoming incoming_then sent phase next stands jobs tells clock then → turn < turns
+    → (tells ≡ true → now ≡ clock 0) → sent' ≡ sent → Takes incoming_then.left incoming_now.left [] → incoming_now.payload ≡ incoming_then.payload
+    → WasServed ends.Closed g start first moments turns incoming incoming_now sent' (seat_in phase) stands jobs failed now
+closed_there turn turns g start first moments incoming incoming_then incoming_now sent sent' phase next stands jobs tells clock then failed now s more clock_now same took keeps =
+    stops_there ends.Closed turn turns g start first moments incoming incoming_then incoming_now sent sent' phase next stands jobs tells clock then failed now s more
+    refl clock_now same took keeps (λ u serves none. (serves, none))
 
-pub spent_there : (turn turns : ℕ) (g : Grounds) (start : Serving) (first : List ℕ) (moments : ℕ → ℕ) (left left_now : Option (List ℕ)) (sent : Option (List ℕ)) (phase : Phase) (next : ℕ → List ℕ)
+pub spent_there : (turn turns : ℕ) (g : Grounds) (start : Serving) (first : List ℕ) (moments : ℕ → ℕ) (incoming incoming_now : Incoming) (sent : Option (List ℕ)) (phase : Phase) (next : ℕ → List ℕ)
     (stands : Hub → Type 0) (jobs : Option (List SeenJob)) (tells : Bool) (clock : ℕ → ℕ) (failed : Type 0) (now : ℕ)
-    → SoFar turn g start first moments left left_now sent phase next stands jobs tells clock now → turn ≡ turns
-    → WasServed ends.TurnsSpent g start first moments turns left left_now sent (seat_in phase) stands jobs failed now
-spent_there turn turns g start first moments left left_now sent phase next stands jobs tells clock failed now s all = record {
+    → SoFar turn g start first moments incoming incoming_now sent phase next stands jobs tells clock now → turn ≡ turns
+    → WasServed ends.TurnsSpent g start first moments turns incoming incoming_now sent (seat_in phase) stands jobs failed now
+spent_there turn turns g start first moments incoming incoming_now sent phase next stands jobs tells clock failed now s all = record {
   pieces = s.pieces;
   reads = turn;
   within = omega (arith, all);
   reads_are = (sym s.count, all);
   nows = s.nows;
   now_is = s.now_is;
+  known = s.known;
   ran = λ head is.
       let a = s.at head is in
       let u = link_run g head [] s.pieces start in
       let x = core_going phase g head (counted head [] s.pieces) u.out next stands jobs [] u a.core in
-      record { ended = (record { sent_is = a.sent_is; hub_stands = x.tells.hub_stands; jobs_are = x.tells.jobs_are; seat_is = x.seat_is }, x.end_is); came = a.came };
+      record { ended = (record { sent_is = a.sent_is; hub_stands = x.tells.hub_stands; jobs_are = x.tells.jobs_are; seat_is = x.seat_is }, x.end_is); came = come_same (is_framed head (counted head [] s.pieces)) head s.pieces incoming incoming_now ⊥ a.came };
 }
 
 -- ---- a piece came
@@ -211,12 +202,43 @@ piece_at bytes now = record { bytes = bytes; now = now }
 
 -- what is known of a piece: it was taken of the link, and served
 pub record PieceCame (e : Option LinkEnd) (g : Grounds) (piece : List ℕ) (now : ℕ) (first : List ℕ) (old new : Phase) (was is : Option (List ℕ)) (next next' : ℕ → List ℕ)
-    (stands stands' : Hub → Type 0) (jobs jobs' : Option (List SeenJob)) (left left' : Option (List ℕ)) (failed : Type 0) : Type 0 where
+    (stands stands' : Hub → Type 0) (jobs jobs' : Option (List SeenJob)) (incoming incoming_then incoming_mid incoming_now : Incoming) (failed : Type 0) : Type 0 where
   pub made : (head : Head Upgrade HeadFault) (text : List ℕ) (start s : Serving) → IsRequestOf (text ++ piece) head
       → CoreStands old g head text s.out next stands jobs [] s → was ≡ Some (first ++ s.out) → Happens start s
       → AfterPiece e new g head (with_piece head text piece) next' first is stands' jobs' failed start (piece_done g head text (piece_at piece now) s)
+  pub took : Takes incoming_then.left incoming_mid.left piece
+  pub keeps : incoming_mid.payload ≡ incoming_then.payload
+  pub goes : incoming.ended ≡ false → incoming_mid.ended ≡ false
+  pub free : NotHeld old
+  pub known : OnNoHead old (λ unread. LinkKnows e (unread ++ piece))
   pub came : (head : Head Upgrade HeadFault) (text : List ℕ) (s : Serving) → IsRequestOf (text ++ piece) head
-      → CoreStands old g head text s.out next stands jobs [] s → asks_framing head.says ≡ false → Takes left left' piece
+      → CoreStands old g head text s.out next stands jobs [] s → IsBehindHead old head text → Frames e head text piece incoming_mid incoming_now
+
+-- how the pieces came, with this one
+come_with : (e : Option LinkEnd) (g : Grounds) (piece : List ℕ) (now : ℕ) (first : List ℕ) (old new : Phase) (was is : Option (List ℕ)) (next next' : ℕ → List ℕ)
+    (stands stands' : Hub → Type 0) (jobs jobs' : Option (List SeenJob)) (incoming incoming_then incoming_mid incoming_now : Incoming) (failed : Type 0) (head : Head Upgrade HeadFault) (ps : List Piece) (s : Serving)
+    → PieceCame e g piece now first old new was is next next' stands stands' jobs jobs' incoming incoming_then incoming_mid incoming_now failed
+    → Come head ps incoming incoming_then ⊥ → IsRequestOf (counted head [] ps ++ piece) head → CoreStands old g head (counted head [] ps) s.out next stands jobs [] s
+    → IsBehindHead old head (counted head [] ps) → Come head (ps ++ piece_at piece now ∷ []) incoming incoming_now (UnableBy e)
+come_with e g piece now first old new was is next next' stands stands' jobs jobs' incoming incoming_then incoming_mid incoming_now failed head ps s x come is_head core behind =
+    let p = piece_at piece now in
+    let text = counted head [] ps in
+    let more : counted head [] (ps ++ p ∷ []) ≡ with_piece head text piece = counted_more head [] ps p in
+    let frames : FramesBy (is_framed head text) (is_framed head (counted head [] (ps ++ p ∷ []))) e (drop head.size (text ++ piece)) incoming_mid incoming_now =
+    subst (λ (b : Bool). FramesBy (is_framed head text) b e (drop head.size (text ++ piece)) incoming_mid incoming_now) (sym (ap (is_framed head) more))
+    (x.came head text s is_head core behind) in
+    come_more (is_framed head text) (is_framed head (counted head [] (ps ++ p ∷ []))) e head ps p incoming incoming_then incoming_mid incoming_now refl refl come x.took x.keeps x.goes frames
+
+-- and what is known of their head
+known_with : (turn : ℕ) (g : Grounds) (start : Serving) (first : List ℕ) (moments : ℕ → ℕ) (incoming incoming_then : Incoming) (sent : Option (List ℕ)) (old : Phase) (next : ℕ → List ℕ)
+    (stands : Hub → Type 0) (jobs : Option (List SeenJob)) (tells : Bool) (clock : ℕ → ℕ) (then : ℕ) (p : Piece)
+    → (s : SoFar turn g start first moments incoming incoming_then sent old next stands jobs tells clock then) → NotHeld old
+    → OnNoHead old (λ unread. HasHead (unread ++ p.bytes)) → HaveHead (s.pieces ++ p ∷ [])
+known_with turn g start first moments incoming incoming_then sent old next stands jobs tells clock then p s free known =
+    let head = s.known.0 in
+    let a = s.at head s.known.1 in
+    let u = link_run g head [] s.pieces start in
+    known_more old g head s.pieces p u.out next stands jobs [] u s.known.1 a.core free a.behind known
 
 -- with its head
 with_head : (head : Head Upgrade HeadFault) (ps : List Piece) (p : Piece) → IsRequestOf (counted head [] (ps ++ p ∷ [])) head → HasHeads head (counted head [] ps) p.bytes
@@ -241,12 +263,12 @@ never_spent P (link_over end) never = tt
 never_spent P link_unkept never = tt
 never_spent P link_short never = tt
 
-pub ended_there : (end : LinkEnd) (turn turns : ℕ) (g : Grounds) (start : Serving) (first : List ℕ) (moments : ℕ → ℕ) (left left_then left_now : Option (List ℕ)) (was is : Option (List ℕ)) (old new : Phase) (next next' : ℕ → List ℕ)
+pub ended_there : (end : LinkEnd) (turn turns : ℕ) (g : Grounds) (start : Serving) (first : List ℕ) (moments : ℕ → ℕ) (incoming incoming_then incoming_mid incoming_now : Incoming) (was is : Option (List ℕ)) (old new : Phase) (next next' : ℕ → List ℕ)
     (stands stands' : Hub → Type 0) (jobs jobs' : Option (List SeenJob)) (tells : Bool) (clock : ℕ → ℕ) (then : ℕ) (failed : Type 0) (piece : List ℕ) (now : ℕ)
-    → SoFar turn g start first moments left left_then was old next stands jobs tells clock then → turn < turns → (tells ≡ true → now ≡ clock 0)
-    → PieceCame (Some end) g piece now first old new was is next next' stands stands' jobs jobs' left_then left_now failed → IsPieceEnd (link_outcome end)
-    → WasServed end g start first moments turns left left_now is (seat_in new) stands' jobs' failed now
-ended_there end turn turns g start first moments left left_then left_now was is old new next next' stands stands' jobs jobs' tells clock then failed piece now s more clock_now came never =
+    → SoFar turn g start first moments incoming incoming_then was old next stands jobs tells clock then → turn < turns → (tells ≡ true → now ≡ clock 0)
+    → PieceCame (Some end) g piece now first old new was is next next' stands stands' jobs jobs' incoming incoming_then incoming_mid incoming_now failed → IsPieceEnd (link_outcome end)
+    → WasServed end g start first moments turns incoming incoming_now is (seat_in new) stands' jobs' failed now
+ended_there end turn turns g start first moments incoming incoming_then incoming_mid incoming_now was is old new next next' stands stands' jobs jobs' tells clock then failed piece now s more clock_now came never =
     let p = piece_at piece now in
     let count : length (s.pieces ++ p ∷ []) ≡ turn + 1 = length_more s.pieces p ∙ ap (λ (n : ℕ). n + 1) s.count in
     let when : now ≡ moments turn = now_at turn moments clock now (clock_now s.told) s.clock_is in
@@ -257,6 +279,8 @@ ended_there end turn turns g start first moments left left_then left_now was is 
       reads_are = subst (λ (n : ℕ). ReadsAre (link_outcome end) n (turn + 1) turns) (sym count) (reads_by (link_outcome end) turn turns never);
       nows = nows_more moments 0 s.pieces p s.nows (when ∙ (let e : turn ≡ 0 + length s.pieces = omega (arith, s.count) in ap moments e));
       now_is = λ some. when ∙ (let e : turn ≡ turn + 1 - 1 = omega arith in ap moments e);
+      known = known_ended (link_outcome end) old piece (HaveHead (s.pieces ++ p ∷ []))
+          (λ known. known_with turn g start first moments incoming incoming_then was old next stands jobs tells clock then p s came.free known) came.known;
       ran = λ head is_head.
           let heads = with_head head s.pieces p is_head in
           let a = s.at head heads.before in
@@ -265,18 +289,17 @@ ended_there end turn turns g start first moments left left_then left_now was is 
           record {
             ended = subst (λ (u : Serving). LinkEnds (link_outcome end) first is (seat_in new) stands' jobs' failed start u) (sym (run_more g head [] s.pieces p start))
                 (came.made head text start v heads.whole a.core a.sent_is a.happens);
-            came = λ asks. subst (λ (l : List ℕ). Takes left left_now l) (sym (bytes_more s.pieces p))
-                (takes_both left left_then left_now (bytes_of s.pieces) piece (a.came asks) (came.came head text v heads.whole a.core asks));
+            came = come_with (Some end) g piece now first old new was is next next' stands stands' jobs jobs' incoming incoming_then incoming_mid incoming_now failed head s.pieces v came a.came heads.whole a.core a.behind;
           };
     }
 
-pub goes_there : (turn : ℕ) (g : Grounds) (start : Serving) (first : List ℕ) (moments : ℕ → ℕ) (left left_then left_now : Option (List ℕ)) (was is : Option (List ℕ)) (old new : Phase) (next next' : ℕ → List ℕ)
+pub goes_there : (turn : ℕ) (g : Grounds) (start : Serving) (first : List ℕ) (moments : ℕ → ℕ) (incoming incoming_then incoming_mid incoming_now : Incoming) (was is : Option (List ℕ)) (old new : Phase) (next next' : ℕ → List ℕ)
     (stands stands' : Hub → Type 0) (jobs jobs' : Option (List SeenJob)) (tells tells' : Bool) (clock clock' : ℕ → ℕ) (then : ℕ) (failed : Type 0) (piece : List ℕ) (now : ℕ)
-    → SoFar turn g start first moments left left_then was old next stands jobs tells clock then → (tells ≡ true → now ≡ clock 0)
+    → SoFar turn g start first moments incoming incoming_then was old next stands jobs tells clock then → (tells ≡ true → now ≡ clock 0)
     → tells' ≡ tells → ((n : ℕ) → clock' n ≡ clock (n + 1))
-    → PieceCame None g piece now first old new was is next next' stands stands' jobs jobs' left_then left_now failed
-    → SoFar (turn + 1) g start first moments left left_now is new next' stands' jobs' tells' clock' now
-goes_there turn g start first moments left left_then left_now was is old new next next' stands stands' jobs jobs' tells tells' clock clock' then failed piece now s clock_now told after came =
+    → PieceCame None g piece now first old new was is next next' stands stands' jobs jobs' incoming incoming_then incoming_mid incoming_now failed
+    → SoFar (turn + 1) g start first moments incoming incoming_now is new next' stands' jobs' tells' clock' now
+goes_there turn g start first moments incoming incoming_then incoming_mid incoming_now was is old new next next' stands stands' jobs jobs' tells tells' clock clock' then failed piece now s clock_now told after came =
     let p = piece_at piece now in
     let when : now ≡ moments turn = now_at turn moments clock now (clock_now s.told) s.clock_is in
     record {
@@ -286,6 +309,7 @@ goes_there turn g start first moments left left_then left_now was is old new nex
       told = told ∙ s.told;
       clock_is = λ n. after n ∙ s.clock_is (n + 1) ∙ (let e : turn + (n + 1) ≡ turn + 1 + n = omega arith in ap moments e);
       now_is = λ some. when ∙ (let e : turn ≡ turn + 1 - 1 = omega arith in ap moments e);
+      known = known_with turn g start first moments incoming incoming_then was old next stands jobs tells clock then p s came.free came.known;
       at = λ head is_head.
           let heads = with_head head s.pieces p is_head in
           let a = s.at head heads.before in
@@ -299,27 +323,34 @@ goes_there turn g start first moments left left_then left_now was is old new nex
           record {
             core = subst (λ (w : Serving). CoreStands new g head (counted head [] (s.pieces ++ p ∷ [])) w.out next' stands' jobs' [] w) same core;
             sent_is = subst (λ (w : Serving). is ≡ Some (first ++ w.out)) same made.1;
-            happens = subst (λ (w : Serving). Happens start w) same (happens_trans start v u a.happens (piece_happens g head text p v));
-            came = λ asks. subst (λ (l : List ℕ). Takes left left_now l) (sym (bytes_more s.pieces p))
-                (takes_both left left_then left_now (bytes_of s.pieces) piece (a.came asks) (came.came head text v heads.whole a.core asks));
+            happens = subst (λ (w : Serving). Happens start w) same (happens_trans start v u a.happens (piece_happens old g head text v.out next stands jobs [] p v a.core));
+            came = come_with None g piece now first old new was is next next' stands stands' jobs jobs' incoming incoming_then incoming_mid incoming_now failed head s.pieces v came a.came heads.whole a.core a.behind;
+            behind = subst (λ (t : List ℕ). IsBehindHead new head t) (sym (counted_more head [] s.pieces p))
+                (behind_more old new g head text v.out u.out next next' stands stands' jobs jobs' [] [] p v a.core a.behind made.0);
           };
     }
 
-pub starts_there : (g : Grounds) (start : Serving) (first : List ℕ) (moments : ℕ → ℕ) (left : Option (List ℕ)) (sent : Option (List ℕ)) (phase : Phase) (next : ℕ → List ℕ)
+-- before the first byte no head has ended
+nothing_early : (g : Grounds) (head : Head Upgrade HeadFault) → IsRequestOf [] head → nat_lt (length {A = ℕ} []) head.size ≡ true
+nothing_early g head is = no_items head [] (start g head [] g.draw is (λ n. refl)).none
+
+pub starts_there : (g : Grounds) (start : Serving) (first : List ℕ) (moments : ℕ → ℕ) (incoming : Incoming) (sent : Option (List ℕ)) (phase : Phase) (next : ℕ → List ℕ)
     (stands : Hub → Type 0) (jobs : Option (List SeenJob)) (tells : Bool) (clock : ℕ → ℕ) (now : ℕ)
-    → Starts g start first moments sent phase next stands jobs tells clock → SoFar 0 g start first moments left left sent phase next stands jobs tells clock now
-starts_there g start first moments left sent phase next stands jobs tells clock now s = record {
+    → Starts g start first moments sent phase next stands jobs tells clock → SoFar 0 g start first moments incoming incoming sent phase next stands jobs tells clock now
+starts_there g start first moments incoming sent phase next stands jobs tells clock now s = record {
   pieces = [];
   count = refl;
   nows = tt;
   told = s.told;
   clock_is = λ n. s.clock_is n ∙ (let e : n ≡ 0 + n = omega arith in ap moments e);
   now_is = λ some. absurd (nothing some);
+  known = none_known;
   at = λ head is. record {
     core = s.core head is;
     sent_is = s.sent_is;
-    happens = happens_same start start.out start.drawn start.seat start.welcome start.end;
-    came = λ asks. λ text told. (text, refl, told);
+    happens = happens_refl start;
+    came = come_nothing head incoming ⊥ (nothing_early g head is);
+    behind = s.behind head;
   };
 }
   where
@@ -345,6 +376,8 @@ ends_left link_unkept first sent seat old new jobs failed start u left x = recor
   jobs_are = x.jobs_are;
   seat_is = x.seat_is;
   none = x.none;
+  came = x.came;
+  comes = x.comes;
   request = x.request;
   place = x.place;
   chunk = x.chunk;
@@ -361,11 +394,11 @@ ends_left link_short first sent seat old new jobs failed start u left x = record
   comes = x.comes;
 }
 
-pub served_left : (end : LinkEnd) (g : Grounds) (start : Serving) (first : List ℕ) (moments : ℕ → ℕ) (turns : ℕ) (left left_now : Option (List ℕ)) (sent : Option (List ℕ)) (seat : Option Seat)
+pub served_left : (end : LinkEnd) (g : Grounds) (start : Serving) (first : List ℕ) (moments : ℕ → ℕ) (turns : ℕ) (incoming incoming_now : Incoming) (sent : Option (List ℕ)) (seat : Option Seat)
     (old new : Hub → Type 0) (jobs : Option (List SeenJob)) (failed : Type 0) (now : ℕ)
-    → ((h : Hub) → old h → new (hub_left seat now h)) → WasServed end g start first moments turns left left_now sent seat old jobs failed now
-    → IsServed end g start first moments turns left left_now sent new jobs failed
-served_left end g start first moments turns left left_now sent seat old new jobs failed now lost w = record {
+    → ((h : Hub) → old h → new (hub_left seat now h)) → WasServed end g start first moments turns incoming incoming_now sent seat old jobs failed now
+    → IsServed end g start first moments turns incoming incoming_now sent new jobs failed
+served_left end g start first moments turns incoming incoming_now sent seat old new jobs failed now lost w = record {
   seat = seat;
   now = now;
   served = record {
@@ -375,6 +408,7 @@ served_left end g start first moments turns left left_now sent seat old new jobs
     reads_are = w.reads_are;
     nows = w.nows;
     now_is = w.now_is;
+    known = w.known;
     ran = λ head is.
         let r = w.ran head is in
         record {
@@ -385,10 +419,10 @@ served_left end g start first moments turns left left_now sent seat old new jobs
 }
 
 -- there was no room for a piece
-pub not_served : (g : Grounds) (first : List ℕ) (h : Hub) (js : List SeenJob) (moments : ℕ → ℕ) (turns : ℕ) (left : Option (List ℕ)) (sent : Option (List ℕ)) (stands : Hub → Type 0) (jobs : Option (List SeenJob)) (failed : Type 0)
+pub not_served : (g : Grounds) (first : List ℕ) (h : Hub) (js : List SeenJob) (moments : ℕ → ℕ) (turns : ℕ) (incoming : Incoming) (sent : Option (List ℕ)) (stands : Hub → Type 0) (jobs : Option (List SeenJob)) (failed : Type 0)
     → sent ≡ Some first → stands h → jobs ≡ Some js
-    → IsServed ends.NoMemory g (new_serving h js) first moments turns left left sent stands jobs failed
-not_served g first h js moments turns left sent stands jobs failed sent_is hub_stands jobs_are = record {
+    → IsServed ends.NoMemory g (new_serving h js) first moments turns incoming incoming sent stands jobs failed
+not_served g first h js moments turns incoming sent stands jobs failed sent_is hub_stands jobs_are = record {
   seat = None;
   now = 0;
   served = record {
@@ -398,6 +432,7 @@ not_served g first h js moments turns left sent stands jobs failed sent_is hub_s
     reads_are = refl;
     nows = tt;
     now_is = λ some. absurd (nothing some);
+    known = tt;
     ran = λ head is. record {
       ended = record {
         part = new_serving h js;
@@ -405,10 +440,10 @@ not_served g first h js moments turns left sent stands jobs failed sent_is hub_s
         hub_stands = hub_stands;
         jobs_are = jobs_are;
         seat_is = refl;
-        came = happens_same (new_serving h js) [] 0 None None None;
+        came = happens_refl (new_serving h js);
         comes = grows_refl (new_serving h js);
       };
-      came = λ asks. λ text told. (text, refl, told);
+      came = come_nothing head incoming ⊤ (nothing_early g head is);
     };
   };
 }
@@ -425,6 +460,7 @@ new_starts g first h js moments sent phase next stands jobs tells new draws sent
     subst (λ (p : Phase). Starts g s first moments sent p next stands jobs tells moments) (sym new)
     (record {
       told = told;
+      behind = λ head. tt;
       clock_is = λ n. refl;
       sent_is = sent_is ∙ ap (λ (l : List ℕ). Some l) (sym (append-nil first));
       core = λ head is.
@@ -438,9 +474,10 @@ new_starts g first h js moments sent phase next stands jobs tells new draws sent
             raw = [];
             opens = opens;
             counts = refl;
-            written = sym (new_out g head opens.none);
+            written = sym (ap (λ (o : Opened). o.out) (nothing_opened g head opens.none));
+            drawn = sym (ap (λ (o : Opened). o.drawn) (nothing_opened g head opens.none));
           };
     })
   where
-    new_out : (g : Grounds) (head : Head Upgrade HeadFault) → items head [] ≡ [] → (opened g head []).out ≡ []
-    new_out g head none = ap (λ (o : Opened). o.out) (opened_is g head [] [] none)
+    nothing_opened : (g : Grounds) (head : Head Upgrade HeadFault) → items head [] ≡ [] → opened g head [] ≡ new_opened
+    nothing_opened g head none = opened_is g head [] [] none

@@ -1,18 +1,16 @@
 -- A served link whose session stays on it.
-use Rattle.std.proofs.Common.{◌≡◌, ◌≢◌, ℕ, zero, suc, Bool, true, false, cond, Option, Some, None, List, [], ◌∷◌, ◌++◌, refl, sym, ap, subst, ◌∙◌}
+use Rattle.std.proofs.Common.{◌≡◌, ◌≢◌, ℕ, zero, suc, Bool, true, false, cond, Option, Some, None, List, [], ◌∷◌, refl, sym, ap, subst, ◌∙◌}
 use Rattle.ra_base.specs.declared.handshake.Reason.{Reason}
 use Rattle.ra_base.specs.declared.handshake.Request.{Request}
 use Rattle.ra_base.specs.declared.key.Cause.{Cause}
-use Rattle.ra_base.specs.declared.key.Cause.TheVariants.{BadIpc}
 use Rattle.ra_base.specs.declared.key.Key.{Key}
 use Rattle.ra_base.specs.declared.key.Seat.{Seat}
 use Rattle.ra_items.specs.Heads.{Head}
 use Rattle.ra_opening.specs.declared.ends.OpeningEnd.{OpeningEnd}
 use Rattle.ra_opening.specs.declared.ends.OpeningEnd.TheVariants as opening_ends
-use Rattle.ra_opening.specs.Openings.{Grounds, Opened, opened}
+use Rattle.ra_opening.specs.Openings.{Grounds, opened}
 use Rattle.ra_opening.specs.Openings.{Stage}
 use Rattle.ra_opening.specs.Openings.Stage.{Heading, Shaking, Asked, Over}
-use Rattle.ra_opening.specs.Verdicts.{refusal_bytes, acceptance_bytes}
 use Rattle.ra_registry.specs.Admission.{admission_refusal, seat_for, key_of}
 use Rattle.ra_registry.specs.Rows.{same_key}
 use Rattle.ra_registry.proofs.SameKeys.{same_key_itself}
@@ -22,32 +20,32 @@ use Rattle.ra_session.specs.SessionCalls.{attach}
 use Rattle.ra_session.specs.SessionRefusals.{Refusal, ended, stale, no_link, too_long, bad_ipc, too_large, ids_spent, no_such_call, wrong_kind, attach_refusal}
 use Rattle.ra_session.specs.Sessions.{Session}
 use Rattle.ra_session.specs.TurnRefusals.{turn_refusal}
-use Rattle.ra_session.specs.Turns.{TurnAnswer, turn, turn_answer}
+use Rattle.ra_session.specs.Turns.{turn, turn_answer}
 use Rattle.ra_session.proofs.LinkLaws.{attach_on, turn_on, turn_never}
 use Rattle.ra_upgrade.specs.declared.request_head.HeadFault.{HeadFault}
 use Rattle.ra_upgrade.specs.declared.request_head.Upgrade.{Upgrade}
-use Rattle.ra_hub.specs.Hubs.{Hub, at_key, with_session, admitted, refused}
+use Rattle.ra_hub.specs.Hubs.{Hub, at_key, admitted, refused}
 use Rattle.ra_hub.specs.Jobs.{SeenJob}
 use Rattle.ra_base.specs.declared.kind.Kind.{Kind}
 use Rattle.ra_model.specs.Refusals.{or_fault, fault_if}
 use Rattle.std.specs.Prelude.{option_map, nat_le, drop}
-use Rattle.ra_link.specs.HubEvents.{HubEvent, event_done, event_jobs, on_session, judged_by}
-use Rattle.ra_link.specs.HubEvents.HubEvent.{Admit, Attach, Turn, Lose, Close}
-use Rattle.ra_link.specs.LinkRuns.{Piece, End, head_refused, request_refused, refused_by, Serving, new_serving, writes, ends_by, does, closes, Turned, stops, turn_refused, turn_ended, turn_made, turn_by, turn_in, turned, turned_again, turns_for, served, attached_by, attached_in, attached, welcomed, asked_by, asked, opening_end, opening_by, opening_came, with_piece, piece_by, piece_done, link_run}
+use Rattle.ra_link.specs.HubEvents.{event_done, on_session, judged_by}
+use Rattle.ra_link.specs.HubEvents.HubEvent.{Admit, Attach, Turn}
+use Rattle.ra_link.specs.LinkRuns.{Piece, End, head_refused, request_refused, refused_by, Serving, new_serving, writes, does, Turned, stops, turn_refused, turn_ended, turn_by, turn_in, turned, turned_again, turns_for, served, attached_by, attached_in, attached, asked_by, asked, opening_end, opening_by, with_piece, piece_by, piece_done, link_run}
 use Rattle.ra_hub.specs.Running.{HubRuns}
 
 -- ---- the session of a seat
 
-abbrev OnLinkAt : Seat → Hub → Type 0
+abbrev pub OnLinkAt : Seat → Hub → Type 0
 OnLinkAt seat h = (x : Session) → h.session seat.key ≡ Some x → IsOnLink seat.epoch x
 
-abbrev SeatSound : Option Seat → Option End → Hub → Type 0
+abbrev pub SeatSound : Option Seat → Option End → Hub → Type 0
 SeatSound None end h = end ≡ None → HubRuns h
 SeatSound (Some seat) end h = end ≡ None → OnLinkAt seat h
 
-record Sound (s : Serving) : Type 0 where
-  never : s.end ≢ Some (refused_by no_link)
-  seated : SeatSound s.seat s.end s.hub
+pub record Sound (s : Serving) : Type 0 where
+  pub never : s.end ≢ Some (refused_by no_link)
+  pub seated : SeatSound s.seat s.end s.hub
 
 ended_sound : (seat : Option Seat) (end : End) (h : Hub) → SeatSound seat (Some end) h
 ended_sound None end h = λ is. cc
@@ -69,7 +67,7 @@ from : Session → Option Session → Session
 from d None = d
 from d (Some x) = x
 
-is_that : (a b : Session) → Some a ≡ Some b → a ≡ b
+pub is_that : (a b : Session) → Some a ≡ Some b → a ≡ b
 unfolding from
 is_that a b e = ap (λ (o : Option Session). from a o) e
 
@@ -200,7 +198,7 @@ attached_sound seat chunk now s is none runs = here (s.hub.session seat.key) ref
 new_runs : (kind : Kind) (now : ℕ) → IsRunning (serving kind now)
 new_runs kind now going = refl
 
-admit_runs : (request : Request) (now : ℕ) (h : Hub) → HubRuns h → HubRuns (event_done (Admit request now) h)
+pub admit_runs : (request : Request) (now : ℕ) (h : Hub) → HubRuns h → HubRuns (event_done (Admit request now) h)
 unfolding event_done admitted refused
 admit_runs request now h runs = judged (admission_refusal h.registry request now)
   where
@@ -244,7 +242,7 @@ opening_sound (Over end) text now s is none runs = record {
   seated = subst (λ (o : Option Seat). SeatSound o (opening_end end) s.hub) (sym is) (λ still. runs);
 }
 
-piece_sound : (grounds : Grounds) (head : Head Upgrade HeadFault) (before : List ℕ) (piece : Piece) (s : Serving) → Sound s → Sound (piece_done grounds head before piece s)
+pub piece_sound : (grounds : Grounds) (head : Head Upgrade HeadFault) (before : List ℕ) (piece : Piece) (s : Serving) → Sound s → Sound (piece_done grounds head before piece s)
 unfolding piece_done
 piece_sound grounds head before piece s sound = here s.end s.seat refl refl
   where
@@ -261,7 +259,10 @@ run_sound grounds head text [] s sound = sound
 run_sound grounds head text (piece ∷ pieces) s sound =
     run_sound grounds head (with_piece head text piece.bytes) pieces (piece_done grounds head text piece s) (piece_sound grounds head text piece s sound)
 
+pub new_sound : (h : Hub) (jobs : List SeenJob) → HubRuns h → Sound (new_serving h jobs)
+new_sound h jobs runs = record { never = λ is. cc; seated = λ still. runs }
+
 pub run_never : (grounds : Grounds) (head : Head Upgrade HeadFault) (text : List ℕ) (pieces : List Piece) (h : Hub) (jobs : List SeenJob)
     → HubRuns h → (link_run grounds head text pieces (new_serving h jobs)).end ≢ Some (refused_by no_link)
 run_never grounds head text pieces h jobs runs =
-    (run_sound grounds head text pieces (new_serving h jobs) (record { never = λ is. cc; seated = λ still. runs })).never
+    (run_sound grounds head text pieces (new_serving h jobs) (new_sound h jobs runs)).never

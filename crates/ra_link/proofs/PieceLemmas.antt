@@ -1,7 +1,8 @@
 -- One piece of a link.
-use Rattle.std.proofs.Common.{◌≡◌, ℕ, ◌-◌, true, Option, Some, None, List, [], ◌++◌, length, take, drop, inl, inr, refl, sym, ap, subst, ◌∙◌}
-use Rattle.std.specs.Prelude.{⊤}
-use Rattle.std.proofs.lemmas.Bool.{ltb-true}
+use Rattle.std.proofs.Common.{◌≡◌, ℕ, ◌+◌, ◌-◌, ◌<◌, ◌≤◌, Bool, true, false, Option, Some, None, List, [], ◌++◌, length, take, drop, inl, inr, refl, sym, ap, subst, ◌∙◌, append_assoc, arith, rules}
+use Rattle.std.specs.Prelude.{⊤, nat_lt}
+use Rattle.std.proofs.lemmas.Bool.{ltb-true, ltb-false}
+use Rattle.std.proofs.lemmas.List.{length-append, length-take-le, take-append-drop}
 use Rattle.ra_base.specs.declared.handshake.Request.{Request}
 use Rattle.ra_base.specs.declared.key.Seat.{Seat}
 use Rattle.ra_items.specs.Heads.{Head}
@@ -26,13 +27,16 @@ use Rattle.ra_hub.specs.Jobs.{SeenJob}
 use Rattle.ra_link.specs.LinkRuns as runs
 use Rattle.ra_link.specs.LinkRuns.{Serving, End, Piece, asked, opening_by, opening_came, piece_by, piece_done, with_piece, served, turns_for}
 use Rattle.ra_link.specs.Makes.{Outcome, goes, over, unkept, short, Happens, Grows, IsGoing, IsEnded, IsShort, Makes, outcome_of, opening_end, IsSeated, IsSeatedIn}
-use Rattle.ra_link.specs.Cores.{IsOpening, CoreMakes, counted_in, base_of, phase_of}
+use Rattle.ra_link.specs.Cores.{IsOpening, CoreStands, CoreMakes, NotHeld, OnHeld, IsBehindHead, counted_in, base_of, phase_of}
 use Rattle.ra_link.specs.declared.ends.CoreEnd.{CoreEnd}
 use Rattle.ra_link.specs.declared.ends.CoreEnd.TheVariants as ends
+use Rattle.ra_link.specs.declared.phase.Phase.{Phase}
 use Rattle.ra_link.specs.declared.phase.Phase.TheVariants as phases
 use Rattle.ra_link.specs.declared.turns.Step.{Step}
 use Rattle.ra_link.proofs.GrowLemmas.{happens_same, happens_more, grows_served, grows_same, grows_refl, grows_trans, grows_asked}
-use Rattle.ra_link.proofs.CutLemmas.{CutOrNot, IsCut, front_taken}
+use Rattle.ra_link.proofs.CutLemmas.{CutOrNot, IsCut, front_taken, with_longer, open_items}
+use Rattle.ra_link.proofs.ComeLemmas.{behind_counts, still_judged}
+use Rattle.ra_link.proofs.DrawLemmas.{same_draws}
 
 -- ---- the opening behind a text
 
@@ -106,7 +110,7 @@ grows_opening : (stage : Stage) (text : List ℕ) (now : ℕ) (v : Serving) → 
 grows_opening Heading text now v = grows_refl v
 grows_opening (Shaking shake) text now v = grows_refl v
 grows_opening (Asked request place) text now v = grows_asked request place (drop place text) now v
-grows_opening (Over end) text now v = grows_same v _ _ _
+grows_opening (Over end) text now v = grows_same v _ _
 
 -- the link with what its opening wrote
 abbrev pub opened_as : Opened → Serving → Serving
@@ -137,6 +141,7 @@ piece_waits opening opening' g head text piece before next next' stands jobs out
       opens = opens;
       counts = counts;
       written = refl;
+      drawn = refl;
     })
 
 -- ---- the client asks
@@ -150,8 +155,13 @@ asks_going opening g head text raw before next next' stands jobs out out' reques
   end_is = x.going.end_is;
 }
 
-pub asks_happens : (o : Opened) (s : Serving) → Happens s (opened_as o s)
-asks_happens o s = happens_same s o.out o.drawn s.seat s.welcome s.end
+pub asks_happens : (o : Opened) (s : Serving) → s.drawn ≤ o.drawn → Happens s (opened_as o s)
+asks_happens o s later = happens_same s o.out o.drawn s.welcome s.end later
+
+-- an opening takes no draw back
+pub drawn_later : (opening : OpeningState) (g : Grounds) (head : Head Upgrade HeadFault) (text more before : List ℕ) (next : ℕ → List ℕ) (stands : Hub → Type 0) (jobs : Option (List SeenJob)) (out : List ℕ) (s : Serving)
+    → IsOpening opening g head text before next stands jobs out s → s.drawn ≤ (opened g head (text ++ more)).drawn
+drawn_later opening g head text more before next stands jobs out s x = omega (arith, x.drawn, (written_stays g head text more).drawn)
 
 pub asks_serves : (opening : OpeningState) (g : Grounds) (head : Head Upgrade HeadFault) (text piece before : List ℕ) (next next' : ℕ → List ℕ) (stands : Hub → Type 0) (jobs : Option (List SeenJob)) (out out' : List ℕ) (request : Request) (rest : List ℕ) (now : ℕ) (s : Serving)
     → IsOpening opening g head text before next stands jobs out s → with_piece head text piece ≡ text ++ piece
@@ -232,9 +242,42 @@ over_ended end e opening g head text piece before next next' stands jobs out out
 over_ended end e opening g head text piece before next next' stands jobs out out' now s is exact x (inr cut) framing a =
     absurd (exact (framing cut.no_head cut.asks).0)
 
--- memory ran out
+-- memory ran out, and no draw was taken back
+record RanFrom (from : ℕ) (g : Grounds) (head : Head Upgrade HeadFault) (text before : List ℕ) (next : ℕ → List ℕ) (out : List ℕ) : Type 0 where
+  pub part : Opened
+  pub is_part : IsPart part (opened g head text)
+  pub tells : stands_of.Tells g before next out part
+  pub later : from ≤ part.drawn
+
+-- before the head none was made, and behind it none is made
+ran_from : (phase : OpeningPhase) (reader : Reader) (g : Grounds) (head : Head Upgrade HeadFault) (text piece before : List ℕ) (next next' : ℕ → List ℕ) (out out' : List ℕ) (from : ℕ)
+    → StandsIn phase g head text before next reader out → (NeedsFraming phase → ⊥) → from ≡ (opened g head text).drawn → ((n : ℕ) → next n ≡ g.draw (from + n))
+    → ((phase ≡ opening_phases.Heading → ⊥) → next' ≡ next) → RanShort g head (text ++ piece) before next' out'
+    → RanFrom from g head (text ++ piece) before next' out'
+ran_from opening_phases.Heading reader g head text piece before next next' out out' from x unheld drawn draws same r =
+    let none : (opened g head text).drawn ≡ 0 = ap (λ (o : Opened). o.drawn) (opened_is g head text [] x.none) in
+    record { part = r.part; is_part = r.is_part; tells = r.tells; later = omega (arith, drawn, none) }
+ran_from (opening_phases.Held shake) reader g head text piece before next next' out out' from x unheld drawn draws same r = absurd (unheld tt)
+ran_from (opening_phases.Shaking shake) reader g head text piece before next next' out out' from x unheld drawn draws same r =
+    let grown : IsPart (opened g head text) (opened g head (text ++ piece)) = written_stays g head text piece in
+    let kept : next' ≡ next = same (λ (e : opening_phases.Shaking shake ≡ opening_phases.Heading). absurd cc) in
+    record {
+      part = record { stage = r.part.stage; out = r.part.out; drawn = from };
+      is_part = record { more = r.is_part.more; out = r.is_part.out; drawn = omega (arith, grown.drawn, drawn) };
+      tells = record { written = r.tells.written; draws = λ n. ap (λ (f : ℕ → List ℕ). f n) kept ∙ draws n };
+      later = omega arith;
+    }
+ran_from opening_phases.Over reader g head text piece before next next' out out' from x unheld drawn draws same r = absurd x
+
+opening_ran : (opening : OpeningState) (g : Grounds) (head : Head Upgrade HeadFault) (text piece before : List ℕ) (next next' : ℕ → List ℕ) (stands : Hub → Type 0) (jobs : Option (List SeenJob)) (out out' : List ℕ) (s : Serving)
+    → IsOpening opening g head text before next stands jobs out s → (NeedsFraming opening.phase → ⊥) → ((HasNoHead opening → ⊥) → next' ≡ next)
+    → RanShort g head (text ++ piece) before next' out' → RanFrom s.drawn g head (text ++ piece) before next' out'
+opening_ran opening g head text piece before next next' stands jobs out out' s x unheld same r =
+    ran_from opening.phase opening.reader g head text piece before next next' out out' s.drawn
+    (unheld_stands opening g head text before next stands jobs out s x unheld) unheld x.drawn x.going.tells.draws_are same r
+
 short_uncut : (opening : OpeningState) (g : Grounds) (head : Head Upgrade HeadFault) (text piece before : List ℕ) (next next' : ℕ → List ℕ) (stands : Hub → Type 0) (jobs : Option (List SeenJob)) (out out' : List ℕ) (now : ℕ) (s : Serving)
-    → IsOpening opening g head text before next stands jobs out s → with_piece head text piece ≡ text ++ piece → RanShort g head (text ++ piece) before next' out'
+    → IsOpening opening g head text before next stands jobs out s → with_piece head text piece ≡ text ++ piece → RanFrom s.drawn g head (text ++ piece) before next' out'
     → IsShort None stands jobs (base_of g before next') out' s (piece_done g head text (record { bytes = piece; now = now }) s)
 short_uncut opening g head text piece before next next' stands jobs out out' now s x counts r =
     let raw = text ++ piece in
@@ -245,18 +288,35 @@ short_uncut opening g head text piece before next next' stands jobs out out' now
     let is : u ≡ piece_done g head text (record { bytes = piece; now = now }) s =
     ap (λ (t : List ℕ). opening_came (opened g head t) t now s) (sym counts)
     ∙ sym (piece_opening g head text (record { bytes = piece; now = now }) s x.going.seat_is x.going.end_is) in
-    let more : Grows p v = record { bytes = r.is_part.more; out = r.is_part.out; happens = happens_same p o.out o.drawn s.seat s.welcome s.end } in
+    let more : Grows p v = record { bytes = r.is_part.more; out = r.is_part.out; happens = happens_same p o.out o.drawn s.welcome s.end r.is_part.drawn } in
     subst (λ (w : Serving). IsShort None stands jobs (base_of g before next') out' s w) is
     (record {
       part = p;
       tells = record { hub_stands = x.going.tells.hub_stands; jobs_are = x.going.tells.jobs_are; out_is = r.tells.written; draws_are = r.tells.draws };
       seat_is = x.going.seat_is;
-      came = asks_happens r.part s;
+      came = asks_happens r.part s r.later;
       comes = grows_trans p v u more (grows_opening o.stage raw now v);
     })
 
+-- the front up to the end of the head makes all the draws
+front_draws : (g : Grounds) (head : Head Upgrade HeadFault) (text piece : List ℕ) → nat_lt (length text) head.size ≡ true → nat_lt (length (text ++ piece)) head.size ≡ false
+    → (opened g head (text ++ piece)).drawn ≡ (opened g head (text ++ take (head.size - length text) piece)).drawn
+front_draws g head text piece early judged =
+    let n = head.size - length text in
+    let less : length text < head.size = ltb-true (length text) head.size early in
+    let within : head.size ≤ length (text ++ piece) = ltb-false (length (text ++ piece)) head.size judged in
+    let front = text ++ take n piece in
+    let parts : text ++ piece ≡ front ++ drop n piece = ap (λ (l : List ℕ). text ++ l) (sym (take-append-drop n piece)) ∙ sym (append_assoc text (take n piece) (drop n piece)) in
+    let room : n ≤ length piece = omega (arith, less, within, length-append text piece) in
+    let size : length front ≡ head.size = omega (arith, less, length-append text (take n piece), length-take-le n piece room) in
+    let whole : nat_lt (length front) head.size ≡ false = ap (λ (k : ℕ). nat_lt k head.size) size ∙ not_below head.size in
+    ap (λ (t : List ℕ). (opened g head t).drawn) parts ∙ same_draws g head front (drop n piece) whole
+  where
+    not_below : (n : ℕ) → nat_lt n n ≡ false
+    not_below n = search rules
+
 short_cut : (opening : OpeningState) (g : Grounds) (head : Head Upgrade HeadFault) (text piece before : List ℕ) (next next' : ℕ → List ℕ) (stands : Hub → Type 0) (jobs : Option (List SeenJob)) (out out' : List ℕ) (now : ℕ) (s : Serving)
-    → IsOpening opening g head text before next stands jobs out s → IsCut opening head text piece → RanShort g head (text ++ piece) before next' out' → out' ≡ out
+    → IsOpening opening g head text before next stands jobs out s → IsCut opening head text piece → RanFrom s.drawn g head (text ++ piece) before next' out' → out' ≡ out
     → IsShort None stands jobs (base_of g before next') out' s (piece_done g head text (record { bytes = piece; now = now }) s)
 short_cut opening g head text piece before next next' stands jobs out out' now s x cut r nothing =
     let counted = text ++ take (head.size - length text) piece in
@@ -268,8 +328,9 @@ short_cut opening g head text piece before next next' stands jobs out out' now s
     let is : u ≡ piece_done g head text (record { bytes = piece; now = now }) s =
     ap (λ (t : List ℕ). opening_came (opened g head t) t now s) (sym counts)
     ∙ sym (piece_opening g head text (record { bytes = piece; now = now }) s x.going.seat_is x.going.end_is) in
+    let later : r.part.drawn ≤ o.drawn = omega (arith, r.is_part.drawn, front_draws g head text piece cut.early cut.judged) in
     let grown : IsPart (opened g head text) o = written_stays g head text (take (head.size - length text) piece) in
-    let more : Grows p v = record { bytes = grown.more; out = grown.out ∙ ap (λ (l : List ℕ). l ++ grown.more) (sym x.written); happens = happens_same p o.out o.drawn s.seat s.welcome s.end } in
+    let more : Grows p v = record { bytes = grown.more; out = grown.out ∙ ap (λ (l : List ℕ). l ++ grown.more) (sym x.written); happens = happens_same p o.out o.drawn s.welcome s.end later } in
     subst (λ (w : Serving). IsShort None stands jobs (base_of g before next') out' s w) is
     (record {
       part = p;
@@ -280,14 +341,14 @@ short_cut opening g head text piece before next next' stands jobs out out' now s
         draws_are = r.tells.draws;
       };
       seat_is = x.going.seat_is;
-      came = happens_same s s.out r.part.drawn s.seat s.welcome s.end;
+      came = happens_same s s.out r.part.drawn s.welcome s.end r.later;
       comes = grows_trans p v u more (grows_opening o.stage counted now v);
     })
 
 short_opening : (opening : OpeningState) (g : Grounds) (head : Head Upgrade HeadFault) (text piece before : List ℕ) (next next' : ℕ → List ℕ) (stands : Hub → Type 0) (jobs : Option (List SeenJob)) (out out' : List ℕ) (now : ℕ) (s : Serving)
     → IsOpening opening g head text before next stands jobs out s → CutOrNot opening head text piece
     → (HasNoHead opening → AsksFraming (opening.reader.unread ++ piece) → out' ≡ out)
-    → RanShort g head (text ++ piece) before next' out'
+    → RanFrom s.drawn g head (text ++ piece) before next' out'
     → IsShort None stands jobs (base_of g before next') out' s (piece_done g head text (record { bytes = piece; now = now }) s)
 short_opening opening g head text piece before next next' stands jobs out out' now s x (inl counts) framing r =
     short_uncut opening g head text piece before next next' stands jobs out out' now s x counts r
@@ -295,31 +356,82 @@ short_opening opening g head text piece before next next' stands jobs out out' n
     short_cut opening g head text piece before next next' stands jobs out out' now s x cut r (framing cut.no_head cut.asks)
 
 pub opening_ends_so : (e : OpeningEnd) (opening : OpeningState) (g : Grounds) (head : Head Upgrade HeadFault) (text piece before : List ℕ) (next next' : ℕ → List ℕ) (stands : Hub → Type 0) (jobs : Option (List SeenJob)) (out out' : List ℕ) (now : ℕ) (s : Serving)
-    → IsOpening opening g head text before next stands jobs out s → CutOrNot opening head text piece
-    → (HasNoHead opening → AsksFraming (opening.reader.unread ++ piece) → IsNoMemory e × (out' ≡ out))
+    → IsOpening opening g head text before next stands jobs out s → (NeedsFraming opening.phase → ⊥) → CutOrNot opening head text piece
+    → (HasNoHead opening → AsksFraming (opening.reader.unread ++ piece) → IsNoMemory e × (out' ≡ out)) → ((HasNoHead opening → ⊥) → next' ≡ next)
     → Ends e g head (text ++ piece) before next' out'
     → CoreMakes (outcome_of (Some (opening_end e))) phases.Over g head (with_piece head text piece) before next' stands jobs out' s (piece_done g head text (record { bytes = piece; now = now }) s)
-opening_ends_so opening_ends.NoMemory opening g head text piece before next next' stands jobs out out' now s x cut framing ends =
-    short_opening opening g head text piece before next next' stands jobs out out' now s x cut (λ none asks. (framing none asks).1) ends
-opening_ends_so (opening_ends.BadHead fault) opening g head text piece before next next' stands jobs out out' now s x cut framing ends =
+opening_ends_so opening_ends.NoMemory opening g head text piece before next next' stands jobs out out' now s x unheld cut framing same ends =
+    short_opening opening g head text piece before next next' stands jobs out out' now s x cut (λ none asks. (framing none asks).1)
+    (opening_ran opening g head text piece before next next' stands jobs out out' s x unheld same ends)
+opening_ends_so (opening_ends.BadHead fault) opening g head text piece before next next' stands jobs out out' now s x unheld cut framing same ends =
     over_ended _ (opening_ends.BadHead fault) opening g head text piece before next next' stands jobs out out' now s refl (λ no. no) x cut framing ends
-opening_ends_so (opening_ends.Refused reason) opening g head text piece before next next' stands jobs out out' now s x cut framing ends =
+opening_ends_so (opening_ends.Refused reason) opening g head text piece before next next' stands jobs out out' now s x unheld cut framing same ends =
     over_ended _ (opening_ends.Refused reason) opening g head text piece before next next' stands jobs out out' now s refl (λ no. no) x cut framing ends
-opening_ends_so (opening_ends.TooLong n) opening g head text piece before next next' stands jobs out out' now s x cut framing ends =
+opening_ends_so (opening_ends.TooLong n) opening g head text piece before next next' stands jobs out out' now s x unheld cut framing same ends =
     over_ended _ (opening_ends.TooLong n) opening g head text piece before next next' stands jobs out out' now s refl (λ no. no) x cut framing ends
-opening_ends_so opening_ends.Left opening g head text piece before next next' stands jobs out out' now s x cut framing ends =
+opening_ends_so opening_ends.Left opening g head text piece before next next' stands jobs out out' now s x unheld cut framing same ends =
     over_ended _ opening_ends.Left opening g head text piece before next next' stands jobs out out' now s refl (λ no. no) x cut framing ends
 
 -- ---- what a piece makes happen
 
-happens_by : (end : Option End) (seat : Option Seat) (g : Grounds) (text : List ℕ) (head : Head Upgrade HeadFault) (piece : Piece) (s : Serving) → Happens s (piece_by end seat g text head piece s)
-happens_by (Some end) seat g text head piece s = happens_same s s.out s.drawn s.seat s.welcome s.end
-happens_by None (Some seat) g text head piece s = (grows_served (turns_for piece.bytes) seat piece.bytes piece.now s).happens
-happens_by None None g text head piece s =
-    let o = opened g head text in
+opening_happens : (opening : OpeningState) (g : Grounds) (head : Head Upgrade HeadFault) (text before : List ℕ) (next : ℕ → List ℕ) (stands : Hub → Type 0) (jobs : Option (List SeenJob)) (out : List ℕ) (piece : Piece) (s : Serving)
+    → IsOpening opening g head text before next stands jobs out s → Happens s (piece_done g head text piece s)
+opening_happens opening g head text before next stands jobs out piece s x =
+    let whole = with_piece head text piece.bytes in
+    let longer = with_longer head text piece.bytes in
+    let o = opened g head whole in
     let v = opened_as o s in
-    happens_more s v (opening_by o.stage text piece.now v) (asks_happens o s) (grows_opening o.stage text piece.now v)
+    let later : s.drawn ≤ o.drawn =
+    subst (λ (t : List ℕ). s.drawn ≤ (opened g head t).drawn) (sym longer.parts) (drawn_later opening g head text longer.more before next stands jobs out s x) in
+    subst (λ (w : Serving). Happens s w) (sym (piece_opening g head text piece s x.going.seat_is x.going.end_is))
+    (happens_more s v (opening_by o.stage whole piece.now v) (asks_happens o s later) (grows_opening o.stage whole piece.now v))
 
-pub piece_happens : (g : Grounds) (head : Head Upgrade HeadFault) (text : List ℕ) (piece : Piece) (s : Serving) → Happens s (piece_done g head text piece s)
-unfolding piece_done
-piece_happens g head text piece s = happens_by s.end s.seat g (with_piece head text piece.bytes) head piece s
+pub piece_happens : (phase : Phase) (g : Grounds) (head : Head Upgrade HeadFault) (text before : List ℕ) (next : ℕ → List ℕ) (stands : Hub → Type 0) (jobs : Option (List SeenJob)) (out : List ℕ) (piece : Piece) (s : Serving)
+    → CoreStands phase g head text before next stands jobs out s → Happens s (piece_done g head text piece s)
+piece_happens (phases.Opening opening) g head text before next stands jobs out piece s x = opening_happens opening g head text before next stands jobs out piece s x
+piece_happens (phases.Seated seat) g head text before next stands jobs out piece s x =
+    subst (λ (w : Serving). Happens s w) (sym (piece_seated g head text piece seat s x.seat_is x.end_is)) (grows_served (turns_for piece.bytes) seat piece.bytes piece.now s).happens
+piece_happens phases.Over g head text before next stands jobs out piece s x = absurd x
+
+-- ---- a link that has a seat is behind its head
+
+seated_judged : (b : Bool) (g : Grounds) (head : Head Upgrade HeadFault) (text : List ℕ) (now : ℕ) (seat : Seat) (s : Serving) → nat_lt (length text) head.size ≡ b
+    → (opening_came (opened g head text) text now s).seat ≡ Some seat → s.seat ≡ None → b ≡ false
+seated_judged false g head text now seat s is seated none = refl
+seated_judged true g head text now seat s is seated none =
+    let new : opened g head text ≡ new_opened = opened_is g head text [] (open_items head text is) in
+    let same : (opening_came (opened g head text) text now s).seat ≡ s.seat = ap (λ (o : Opened). (opening_came o text now s).seat) new in
+    absurd (apart (sym seated ∙ same ∙ none))
+  where
+    apart : Some seat ≡ None → ⊥
+    apart e = cc
+
+seat_judged : (old : Phase) (g : Grounds) (head : Head Upgrade HeadFault) (text before : List ℕ) (next : ℕ → List ℕ) (stands : Hub → Type 0) (jobs : Option (List SeenJob)) (out : List ℕ) (piece : Piece) (seat : Seat) (s : Serving)
+    → CoreStands old g head text before next stands jobs out s → IsBehindHead old head text → (piece_done g head text piece s).seat ≡ Some seat
+    → nat_lt (length (with_piece head text piece.bytes)) head.size ≡ false
+seat_judged (phases.Opening opening) g head text before next stands jobs out piece seat s x behind seated =
+    let whole = with_piece head text piece.bytes in
+    seated_judged (nat_lt (length whole) head.size) g head whole piece.now seat s refl
+    (sym (ap (λ (u : Serving). u.seat) (piece_opening g head text piece s x.going.seat_is x.going.end_is)) ∙ seated) x.going.seat_is
+seat_judged (phases.Seated own) g head text before next stands jobs out piece seat s x behind seated =
+    ap (λ (t : List ℕ). nat_lt (length t) head.size) (behind_counts head text piece.bytes behind) ∙ still_judged head text piece.bytes behind
+seat_judged phases.Over g head text before next stands jobs out piece seat s x behind seated = absurd x
+
+pub behind_more : (old new : Phase) (g : Grounds) (head : Head Upgrade HeadFault) (text before before' : List ℕ) (next next' : ℕ → List ℕ) (stands stands' : Hub → Type 0) (jobs jobs' : Option (List SeenJob)) (out out' : List ℕ) (piece : Piece) (s : Serving)
+    → CoreStands old g head text before next stands jobs out s → IsBehindHead old head text
+    → CoreStands new g head (with_piece head text piece.bytes) before' next' stands' jobs' out' (piece_done g head text piece s)
+    → IsBehindHead new head (with_piece head text piece.bytes)
+behind_more old (phases.Opening opening) g head text before before' next next' stands stands' jobs jobs' out out' piece s x behind y = tt
+behind_more old (phases.Seated seat) g head text before before' next next' stands stands' jobs jobs' out out' piece s x behind y =
+    seat_judged old g head text before next stands jobs out piece seat s x behind y.seat_is
+behind_more old phases.Over g head text before before' next next' stands stands' jobs jobs' out out' piece s x behind y = tt
+
+-- ---- a link with a seat is not to be framed
+
+pub seat_free : (seat : Option Seat) → NotHeld (phase_of seat)
+seat_free None = tt
+seat_free (Some seat) = tt
+
+pub seat_past : (seat : Option Seat) (P : List ℕ → Type 0) → OnHeld (phase_of seat) P
+seat_past None P = tt
+seat_past (Some seat) P = tt

@@ -1,5 +1,5 @@
 -- A connection served over a link.
-use Rattle.std.proofs.Common.{◌≡◌, ℕ, ◌-◌, true, false, not, Option, Some, None, List, [], ◌++◌, length, take, drop, inl, inr, refl, sym, ap, subst, ◌∙◌, append_assoc, append-nil}
+use Rattle.std.proofs.Common.{◌≡◌, ℕ, ◌-◌, not, Option, Some, None, List, [], ◌++◌, length, take, drop, inl, inr, refl, sym, ap, subst, ◌∙◌, append_assoc, append-nil}
 use Rattle.std.specs.Prelude.{◌⊎◌}
 use Rattle.std.proofs.lemmas.List.{take-append-drop}
 use Rattle.ra_base.specs.declared.key.Seat.{Seat}
@@ -15,7 +15,7 @@ use Rattle.ra_opening.specs.Stands.{OpeningState, Stands, StandsIn, NeedsFraming
 use Rattle.ra_ports.specs.Links.{Sends, SendsFront}
 use Rattle.ra_hub.specs.Hubs.{Hub}
 use Rattle.ra_hub.specs.Jobs.{SeenJob}
-use Rattle.ra_link.specs.LinkRuns.{Serving, asks_framing}
+use Rattle.ra_link.specs.LinkRuns.{Serving}
 use Rattle.ra_link.specs.Makes.{Happens, IsGoing, Outcome, goes, over, unkept, short, outcome_of}
 use Rattle.ra_link.specs.Cores.{IsOpening, CoreStands, CoreMakes, NotHeld, IsHeld, OpeningFramed, SetsFramed, counted_in, base_of, seat_in}
 use Rattle.ra_link.specs.Served.{link_end, broken_end, LinkOutcome, link_closed, link_broke, link_over, link_unkept, link_short, link_outcome, OnFramed, SentFront, LinkEnds, AfterPiece}
@@ -25,7 +25,6 @@ use Rattle.ra_link.specs.declared.ends.LinkEnd.{LinkEnd}
 use Rattle.ra_link.specs.declared.ends.LinkEnd.TheVariants as ends
 use Rattle.ra_link.specs.declared.phase.Phase.{Phase}
 use Rattle.ra_link.specs.declared.phase.Phase.TheVariants as phases
-use Rattle.ra_link.proofs.CutLemmas.{held_asks_in}
 use Rattle.ra_link.proofs.GrowLemmas.{happens_trans, grows_refl}
 
 -- ---- what a core tells
@@ -85,6 +84,7 @@ core_rebased (phases.Opening opening) g head text before next stands jobs out s 
   opens = stands_rebased opening.phase g head x.raw before out s.out [] next opening.reader (append-nil s.out ∙ x.going.tells.out_is) x.opens;
   counts = x.counts;
   written = x.written;
+  drawn = x.drawn;
 }
 core_rebased (phases.Seated seat) g head text before next stands jobs out s x = going_rebased (Some seat) g before out next stands jobs s x
 core_rebased phases.Over g head text before next stands jobs out s x = absurd x
@@ -112,13 +112,13 @@ sent_as first sent before out written is same = is ∙ ap (λ (l : List ℕ). So
 
 -- ---- all of it was sent
 
-abbrev lifted : Outcome → LinkOutcome
+abbrev pub lifted : Outcome → LinkOutcome
 lifted goes = link_closed
 lifted (over end) = link_over end
 lifted unkept = link_unkept
 lifted short = link_short
 
-end_lifted : (e : CoreEnd) → link_outcome (link_end e) ≡ lifted (outcome_of (Some e))
+pub end_lifted : (e : CoreEnd) → link_outcome (link_end e) ≡ lifted (outcome_of (Some e))
 end_lifted (core_ends.BadHead fault) = refl
 end_lifted (core_ends.Refused reason) = refl
 end_lifted (core_ends.TooLong n) = refl
@@ -146,6 +146,8 @@ serves_by unkept phase g head text before next stands jobs out first sent failed
       jobs_are = t.jobs_are;
       seat_is = makes.seat_is;
       none = makes.none;
+      came = happens_trans start s makes.part happens makes.came;
+      comes = makes.comes;
       request = makes.request;
       place = makes.place;
       chunk = makes.chunk;
@@ -164,7 +166,7 @@ serves_by short phase g head text before next stands jobs out first sent failed 
       comes = makes.comes;
     }
 
-never_goes : (e : CoreEnd) → outcome_of (Some e) ≡ goes → ⊥
+pub never_goes : (e : CoreEnd) → outcome_of (Some e) ≡ goes → ⊥
 never_goes (core_ends.BadHead fault) is = absurd cc
 never_goes (core_ends.Refused reason) is = absurd cc
 never_goes (core_ends.TooLong n) is = absurd cc
@@ -185,7 +187,7 @@ sent_end e phase g head text before next stands jobs out first old sent failed s
 
 -- ---- a front of it was sent
 
-abbrev broken_to : Outcome → LinkOutcome
+abbrev pub broken_to : Outcome → LinkOutcome
 broken_to goes = link_broke
 broken_to (over end) = link_broke
 broken_to unkept = link_unkept
@@ -203,7 +205,7 @@ end_broken core_ends.IdsSpent = refl
 end_broken core_ends.KeepFault = refl
 end_broken core_ends.NoMemory = refl
 
-any_broken : (e : Option CoreEnd) → link_outcome (broken_end e) ≡ broken_to (outcome_of e)
+pub any_broken : (e : Option CoreEnd) → link_outcome (broken_end e) ≡ broken_to (outcome_of e)
 any_broken None = refl
 any_broken (Some e) = end_broken e
 
@@ -224,6 +226,8 @@ broke_by unkept phase g head text before next stands jobs out first old sent fai
       jobs_are = t.jobs_are;
       seat_is = makes.seat_is;
       none = makes.none;
+      came = happens_trans start s makes.part happens makes.came;
+      comes = makes.comes;
       request = makes.request;
       place = makes.place;
       chunk = makes.chunk;
@@ -274,6 +278,7 @@ opening_framed old new g head text before next stands jobs out s x held framed f
       opens = framed g head x.raw before next out x.opens;
       counts = x.counts ∙ held_text old.phase old.reader.unread x.raw held ∙ free_text new.phase new.reader.unread raw free;
       written = x.written;
+      drawn = x.drawn;
     }
 
 core_framed : (old new : Phase) (g : Grounds) (head : Head Upgrade HeadFault) (text before : List ℕ) (next : ℕ → List ℕ) (stands : Hub → Type 0) (jobs : Option (List SeenJob)) (out : List ℕ) (s : Serving)
@@ -356,14 +361,3 @@ goes_framed e old new g head text before next stands jobs out first was mid sent
     let y = core_going old g head text before next stands jobs out u x in
     framed_or e old new g head text before next stands jobs out first sent failed start u (held_or_not old) x
     (same ∙ sent_as first mid before out u.out (all_sent first before out was mid is sends) y.tells.out_is) happens unheld framed free
-
--- a link whose head asks for no framed stream is not to be framed
-pub core_free : (phase : Phase) (g : Grounds) (head : Head Upgrade HeadFault) (text before : List ℕ) (next : ℕ → List ℕ) (stands : Hub → Type 0) (jobs : Option (List SeenJob)) (out : List ℕ) (s : Serving)
-    → CoreStands phase g head text before next stands jobs out s → asks_framing head.says ≡ false → NotHeld phase
-core_free (phases.Opening opening) g head text before next stands jobs out s x asks =
-    λ held. apart (sym (held_asks_in opening.phase g head x.raw before next opening.reader out x.opens held) ∙ asks)
-  where
-    apart : true ≡ false → ⊥
-    apart e = cc
-core_free (phases.Seated seat) g head text before next stands jobs out s x asks = tt
-core_free phases.Over g head text before next stands jobs out s x asks = absurd x

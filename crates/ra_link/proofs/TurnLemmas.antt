@@ -153,7 +153,7 @@ unwritten n t seat now stands jobs jobs' base out out' s v going same nothing ca
     let after = turn_ended t.ended t.again seat now w in
     let u = turned_again n seat now after in
     short_at (Some seat) stands jobs jobs' base out out' s v u going same nothing came
-    (grows_trans v w u (grows_writes v t.out v.seat v.welcome v.end) (grows_trans w after.after u (grows_turn_ended t.ended t.again seat now w) (grows_again n seat now after)))
+    (grows_trans v w u (grows_writes v t.out v.welcome v.end) (grows_trans w after.after u (grows_turn_ended t.ended t.again seat now w) (grows_again n seat now after)))
 
 pub written : (bytes : List ℕ) (seat : Option Seat) (stands : Hub → Type 0) (jobs jobs' : Option (List SeenJob)) (base : Base) (out out' : List ℕ) (v : Serving)
     → IsGoing seat stands jobs base out v → jobs' ≡ jobs → out' ≡ out ++ bytes → IsGoing seat stands jobs' base out' (writes bytes v)

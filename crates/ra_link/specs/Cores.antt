@@ -1,5 +1,5 @@
 -- A served link in memory, and the link that it stands for.
-use Rattle.std.specs.Prelude.{◌≡◌, ℕ, ◌-◌, Option, Some, None, List, length, take, ⊤}
+use Rattle.std.specs.Prelude.{◌≡◌, ℕ, ◌-◌, Option, Some, None, List, false, nat_lt, length, take, ⊤}
 use Rattle.ra_base.specs.declared.key.Seat.{Seat}
 use Rattle.ra_upgrade.specs.declared.request_head.HeadFault.{HeadFault}
 use Rattle.ra_upgrade.specs.declared.request_head.Upgrade.{Upgrade}
@@ -7,7 +7,7 @@ use Rattle.ra_items.specs.Heads.{Head}
 use Rattle.ra_opening.specs.declared.phase.Phase.{Phase as OpeningPhase}
 use Rattle.ra_opening.specs.declared.phase.Phase.TheVariants as opening_phases
 use Rattle.ra_opening.specs.Openings.{Grounds, opened}
-use Rattle.ra_opening.specs.Stands.{OpeningState, Stands, HasNoHead, NeedsFraming, IsOpen}
+use Rattle.ra_opening.specs.Stands.{OpeningState, Stands, HasNoHead, NeedsFraming, IsInShake, IsOpen}
 use Rattle.ra_opening.specs.Comes.{HasHead}
 use Rattle.ra_hub.specs.Hubs.{Hub}
 use Rattle.ra_hub.specs.Jobs.{SeenJob}
@@ -44,6 +44,7 @@ pub record IsOpening (opening : OpeningState) (grounds : Grounds) (head : Head U
   pub opens : Stands grounds head raw before next opening out
   pub counts : text ≡ counted_in opening.phase opening.reader.unread raw
   pub written : s.out ≡ (opened grounds head text).out
+  pub drawn : s.drawn ≡ (opened grounds head text).drawn
 
 -- a link that goes on stands for this one, after the text that counts
 abbrev pub CoreStands : Phase → Grounds → Head Upgrade HeadFault → (text before : List ℕ) → (next : ℕ → List ℕ) → (Hub → Type 0) → Option (List SeenJob) → (out : List ℕ) → Serving → Type 0
@@ -76,6 +77,24 @@ IsHeldWith (phases.Opening opening) rest = NeedsFraming opening.phase × (rest �
 IsHeldWith (phases.Seated seat) rest = ⊥
 IsHeldWith phases.Over rest = ⊥
 
+-- the front of the framed stream, where a link waits to be framed
+abbrev pub OnHeld : Phase → (List ℕ → Type 0) → Type 0
+OnHeld (phases.Opening opening) P = NeedsFraming opening.phase → P opening.reader.unread
+OnHeld (phases.Seated seat) P = ⊤
+OnHeld phases.Over P = ⊤
+
+-- the head was read and its link framed, where that had to be
+abbrev pub IsPastHead : Phase → Type 0
+IsPastHead (phases.Opening opening) = IsInShake opening.phase
+IsPastHead (phases.Seated seat) = ⊤
+IsPastHead phases.Over = ⊤
+
+-- the head of a link with a seat has ended in its text
+abbrev pub IsBehindHead : Phase → Head Upgrade HeadFault → List ℕ → Type 0
+IsBehindHead (phases.Opening opening) head text = ⊤
+IsBehindHead (phases.Seated seat) head text = nat_lt (length text) head.size ≡ false
+IsBehindHead phases.Over head text = ⊤
+
 -- the opening has read the text that counts, and no more
 abbrev pub OpeningFramed : OpeningState → OpeningState → Type 0
 OpeningFramed old new = (grounds : Grounds) (head : Head Upgrade HeadFault) (raw before : List ℕ) (next : ℕ → List ℕ) (out : List ℕ)
@@ -95,7 +114,7 @@ SetsFramed phases.Over new = ⊥
 abbrev pub CoreMakes : Outcome → Phase → Grounds → Head Upgrade HeadFault → (text before : List ℕ) → (next : ℕ → List ℕ) → (Hub → Type 0) → Option (List SeenJob) → (out : List ℕ) → (s u : Serving) → Type 0
 CoreMakes goes phase grounds head text before next stands jobs out s u = CoreStands phase grounds head text before next stands jobs out u
 CoreMakes (over end) phase grounds head text before next stands jobs out s u = IsEnded end (seat_in phase) stands jobs (base_of grounds before next) out u
-CoreMakes unkept phase grounds head text before next stands jobs out s u = IsUnkept (seat_in phase) stands jobs (base_of grounds before next) out u
+CoreMakes unkept phase grounds head text before next stands jobs out s u = IsUnkept (seat_in phase) stands jobs (base_of grounds before next) out s u
 CoreMakes short phase grounds head text before next stands jobs out s u = IsShort (seat_in phase) stands jobs (base_of grounds before next) out s u
 
 -- where memory did not run out, some head answers each front of the text

@@ -1,11 +1,11 @@
--- The calls of a hub that a link makes, as events: what each makes of a hub, and the jobs that it gives.
+-- The calls of a hub that a link makes, as events: what each makes of a hub, the jobs that it gives, and the seat that the link has then.
 use Rattle.std.specs.Prelude.{ℕ, List, [], ◌∷◌, ◌++◌, Option, Some, None}
 use Rattle.ra_base.specs.declared.handshake.Reason.{Reason}
 use Rattle.ra_base.specs.declared.handshake.Request.{Request}
 use Rattle.ra_base.specs.declared.key.Cause.{Cause}
 use Rattle.ra_base.specs.declared.key.Key.{Key}
 use Rattle.ra_base.specs.declared.key.Seat.{Seat}
-use Rattle.ra_registry.specs.Admission.{admission_refusal}
+use Rattle.ra_registry.specs.Admission.{admission_refusal, seat_for}
 use Rattle.ra_session.specs.Hearing.{Happening, work, host, call_settled, event_fired}
 use Rattle.ra_session.specs.SessionCalls.{attach}
 use Rattle.ra_session.specs.SessionRefusals.{Refusal}
@@ -70,3 +70,22 @@ events_done (e ∷ es) h = events_done es (event_done e h)
 abbrev pub events_jobs : List HubEvent → Hub → List SeenJob
 events_jobs [] h = []
 events_jobs (e ∷ es) h = event_jobs e h ++ events_jobs es (event_done e h)
+
+-- ---- seats
+
+-- an admission that is not refused gives its seat
+abbrev pub seat_judged_by : Option Reason → Seat → Option Seat → Option Seat
+seat_judged_by None given seat = Some given
+seat_judged_by (Some reason) given seat = seat
+
+-- a link that is lost or closed has no seat
+abbrev pub seat_by : HubEvent → Hub → Option Seat → Option Seat
+seat_by (Admit ask now) h seat = seat_judged_by (admission_refusal h.registry ask now) (seat_for h.registry ask) seat
+seat_by (Attach own chunk now) h seat = seat
+seat_by (Turn own piece now) h seat = seat
+seat_by (Lose own now) h seat = None
+seat_by (Close own cause now) h seat = None
+
+abbrev pub seats_by : List HubEvent → Hub → Option Seat → Option Seat
+seats_by [] h seat = seat
+seats_by (e ∷ es) h seat = seats_by es (event_done e h) (seat_by e h seat)

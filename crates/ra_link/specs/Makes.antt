@@ -19,7 +19,7 @@ use Rattle.ra_hub.specs.HubSeats.{one_if, same_seat}
 use Rattle.ra_hub.specs.Jobs.{SeenJob}
 use Rattle.ra_hub.specs.declared.fault.HubFault.{HubFault}
 use Rattle.ra_hub.specs.declared.fault.HubFault.TheVariants as hub_faults
-use Rattle.ra_link.specs.HubEvents.{HubEvent, events_done, events_jobs, jobs_of}
+use Rattle.ra_link.specs.HubEvents.{HubEvent, events_done, events_jobs, seats_by, jobs_of}
 use Rattle.ra_link.specs.LinkRuns.{Serving, End, head_refused, request_refused, refused_by, turned_again, asked}
 use Rattle.ra_link.specs.declared.ends.CoreEnd.{CoreEnd}
 use Rattle.ra_link.specs.declared.ends.CoreEnd.TheVariants as ends
@@ -42,12 +42,14 @@ pub record Tells (stands : Hub → Type 0) (jobs : Option (List SeenJob)) (base 
   pub out_is : s.out ≡ base.before ++ out
   pub draws_are : (n : ℕ) → base.next n ≡ base.draw (s.drawn + n)
 
--- from the one to the other the hub and the jobs changed by further events
+-- from the one to the other the hub, the jobs and the seat changed by further events, and no draw was taken back
 pub record Happens (s t : Serving) : Type 0 where
   pub more : List HubEvent
   pub events : t.events ≡ s.events ++ more
   pub hub : t.hub ≡ events_done more s.hub
   pub jobs : t.jobs ≡ s.jobs ++ events_jobs more s.hub
+  pub drawn : s.drawn ≤ t.drawn
+  pub seat : t.seat ≡ seats_by more s.hub s.seat
 
 -- and further bytes were written
 pub record Grows (s t : Serving) : Type 0 where
@@ -67,11 +69,13 @@ pub record IsEnded (end : End) (seat : Option Seat) (stands : Hub → Type 0) (j
   pub end_is : u.end ≡ Some end
 
 -- all was done up to an admission, which was not made
-pub record IsUnkept (seat : Option Seat) (stands : Hub → Type 0) (jobs : Option (List SeenJob)) (base : Base) (out : List ℕ) (u : Serving) : Type 0 where
+pub record IsUnkept (seat : Option Seat) (stands : Hub → Type 0) (jobs : Option (List SeenJob)) (base : Base) (out : List ℕ) (s u : Serving) : Type 0 where
   pub part : Serving
   pub tells : Tells stands jobs base out part
   pub seat_is : part.seat ≡ None
   pub none : seat ≡ None
+  pub came : Happens s part
+  pub comes : Grows part u
   pub request : Request
   pub place : ℕ
   pub chunk : List ℕ
@@ -111,7 +115,7 @@ outcome_of (Some ends.NoMemory) = short
 abbrev pub Makes : Outcome → Option Seat → (Hub → Type 0) → Option (List SeenJob) → Base → List ℕ → Serving → Serving → Type 0
 Makes goes seat stands jobs base out s u = IsGoing seat stands jobs base out u
 Makes (over end) seat stands jobs base out s u = IsEnded end seat stands jobs base out u
-Makes unkept seat stands jobs base out s u = IsUnkept seat stands jobs base out u
+Makes unkept seat stands jobs base out s u = IsUnkept seat stands jobs base out s u
 Makes short seat stands jobs base out s u = IsShort seat stands jobs base out s u
 
 -- one more turn is due, of up to n

@@ -1,21 +1,23 @@
 -- A whole connection that is served over objects that tell.
-use Rattle.std.specs.Prelude.{◌≡◌, ℕ, zero, suc, ◌+◌, ◌-◌, ◌<◌, ◌≤◌, Bool, true, false, Option, Some, None, List, [], ◌∷◌, ◌++◌, length, flat_map, ⊤, ◌⊎◌}
+use Rattle.std.specs.Prelude.{◌≡◌, ℕ, zero, suc, ◌+◌, ◌-◌, ◌<◌, ◌≤◌, Bool, true, false, Option, Some, None, List, [], ◌++◌, length, drop, ⊤, ◌⊎◌}
 use Rattle.ra_base.specs.declared.handshake.Request.{Request}
 use Rattle.ra_base.specs.declared.key.Seat.{Seat}
 use Rattle.ra_upgrade.specs.declared.request_head.HeadFault.{HeadFault}
 use Rattle.ra_upgrade.specs.declared.request_head.Upgrade.{Upgrade}
 use Rattle.ra_items.specs.Heads.{Head, IsRequestOf}
+use Rattle.ra_opening.specs.Comes.{HasHead}
 use Rattle.ra_opening.specs.Openings.{Grounds}
 use Rattle.ra_ports.specs.Causes.{next_count}
-use Rattle.ra_ports.specs.Links.{Takes}
+use Rattle.ra_ports.specs.Links.{Incoming, StartsPayload}
 use Rattle.ra_ports.specs.declared.link.Got.{Got}
 use Rattle.ra_ports.specs.declared.link.Got.TheVariants.{Bytes, NotYet, End as Ended}
 use Rattle.ra_session.specs.SessionRefusals.{ended, stale, no_link, too_long, bad_ipc, ids_spent, bad_message}
 use Rattle.ra_hub.specs.Hubs.{Hub}
 use Rattle.ra_hub.specs.Jobs.{SeenJob}
-use Rattle.ra_link.specs.LinkRuns.{Serving, Piece, End, head_refused, request_refused, refused_by, asked, asks_framing, with_piece, link_run, hub_left}
+use Rattle.ra_link.specs.LinkRuns.{Serving, Piece, End, head_refused, request_refused, refused_by, asked, with_piece, link_run, hub_left}
 use Rattle.ra_link.specs.Makes.{Happens, Grows}
-use Rattle.ra_link.specs.Cores.{CoreStands, seat_in}
+use Rattle.ra_link.specs.Cores.{CoreStands, IsBehindHead, seat_in}
+use Rattle.ra_link.specs.Pieces.{counted, NowsAre, HaveHead, is_framed, Come}
 use Rattle.ra_link.specs.declared.ends.CoreEnd.{CoreEnd}
 use Rattle.ra_link.specs.declared.ends.CoreEnd.TheVariants as core_ends
 use Rattle.ra_link.specs.declared.ends.LinkEnd.{LinkEnd}
@@ -138,6 +140,43 @@ OnFramed (Some ends.TurnsSpent) framed same = ⊥
 OnFramed (Some ends.KeepFault) framed same = ⊥
 OnFramed (Some ends.NoMemory) framed same = same
 
+abbrev pub OnNotShort : LinkOutcome → Type 0 → Type 0
+OnNotShort link_closed P = P
+OnNotShort link_broke P = P
+OnNotShort link_spent P = P
+OnNotShort (link_over end) P = P
+OnNotShort link_unkept P = P
+OnNotShort link_short P = ⊤
+
+-- where memory did not run out, some head answers each front of the text
+abbrev pub LinkKnows : Option LinkEnd → List ℕ → Type 0
+LinkKnows None text = HasHead text
+LinkKnows (Some end) text = OnNotShort (link_outcome end) (HasHead text)
+
+-- a link that could not be framed failed, or memory ran out
+abbrev pub CouldNotFrame : LinkOutcome → Type 0
+CouldNotFrame link_closed = ⊥
+CouldNotFrame link_broke = ⊤
+CouldNotFrame link_spent = ⊥
+CouldNotFrame (link_over end) = ⊥
+CouldNotFrame link_unkept = ⊥
+CouldNotFrame link_short = ⊤
+
+abbrev pub UnableBy : Option LinkEnd → Type 0
+UnableBy None = ⊥
+UnableBy (Some end) = CouldNotFrame (link_outcome end)
+
+-- what a piece makes of what is to come on its link: all stays, unless the link is framed as its head ends
+abbrev pub FramesBy : (before after : Bool) → Option LinkEnd → (front : List ℕ) → (old new : Incoming) → Type 0
+FramesBy true after end front old new = new ≡ old
+FramesBy false false end front old new = new ≡ old
+FramesBy false true None front old new = StartsPayload old new front
+FramesBy false true (Some end) front old new = CouldNotFrame (link_outcome end)
+
+abbrev pub Frames : Option LinkEnd → Head Upgrade HeadFault → (text piece : List ℕ) → (old new : Incoming) → Type 0
+Frames end head text piece old new =
+    FramesBy (is_framed head text) (is_framed head (with_piece head text piece)) end (drop head.size (text ++ piece)) old new
+
 -- a count that is raised so often, or stands at the end of its type
 abbrev pub raised : ℕ → ℕ → ℕ
 raised zero count = count
@@ -157,19 +196,6 @@ got_len NotYet = Some 0
 got_len Ended = None
 
 -- ---- the pieces
-
-abbrev pub bytes_of : List Piece → List ℕ
-bytes_of pieces = flat_map (λ p. p.bytes) pieces
-
--- the text that counts
-abbrev pub counted : Head Upgrade HeadFault → List ℕ → List Piece → List ℕ
-counted head before [] = before
-counted head before (p ∷ ps) = counted head (with_piece head before p.bytes) ps
-
--- the moments are those from this one on
-abbrev pub NowsAre : (ℕ → ℕ) → ℕ → List Piece → Type 0
-NowsAre moments first [] = ⊤
-NowsAre moments first (p ∷ ps) = (p.now ≡ moments first) × NowsAre moments (first + 1) ps
 
 -- how often the link was asked, for so many pieces
 abbrev pub ReadsAre : LinkOutcome → (count reads turns : ℕ) → Type 0
@@ -203,13 +229,15 @@ pub record Broke (first : List ℕ) (sent : Option (List ℕ)) (seat : Option Se
   pub seat_is : s.seat ≡ seat
 
 -- All was done up to an admission, which was not made. All of that was sent, or the link failed too.
-pub record NotKept (first : List ℕ) (sent : Option (List ℕ)) (seat : Option Seat) (stands : Hub → Type 0) (jobs : Option (List SeenJob)) (failed : Type 0) (u : Serving) : Type 0 where
+pub record NotKept (first : List ℕ) (sent : Option (List ℕ)) (seat : Option Seat) (stands : Hub → Type 0) (jobs : Option (List SeenJob)) (failed : Type 0) (start u : Serving) : Type 0 where
   pub part : Serving
   pub sent_is : (sent ≡ Some (first ++ part.out)) ⊎ (SentFront first sent part.out × failed)
   pub hub_stands : stands part.hub
   pub jobs_are : jobs ≡ Some part.jobs
   pub seat_is : part.seat ≡ None
   pub none : seat ≡ None
+  pub came : Happens start part
+  pub comes : Grows part u
   pub request : Request
   pub place : ℕ
   pub chunk : List ℕ
@@ -232,7 +260,7 @@ LinkEnds link_closed first sent seat stands jobs failed start u = Serves first s
 LinkEnds link_broke first sent seat stands jobs failed start u = Broke first sent seat stands jobs u
 LinkEnds link_spent first sent seat stands jobs failed start u = Serves first sent seat stands jobs u × (u.end ≡ None)
 LinkEnds (link_over end) first sent seat stands jobs failed start u = Serves first sent seat stands jobs u × (u.end ≡ Some end)
-LinkEnds link_unkept first sent seat stands jobs failed start u = NotKept first sent seat stands jobs failed u
+LinkEnds link_unkept first sent seat stands jobs failed start u = NotKept first sent seat stands jobs failed start u
 LinkEnds link_short first sent seat stands jobs failed start u = RanOut first sent seat stands jobs start u
 
 -- one piece was served
@@ -244,14 +272,15 @@ AfterPiece (Some end) phase grounds head text next first sent stands jobs failed
 
 -- ---- the whole link
 
--- What a link did whose text has this head. Where that asks for no framed stream, the pieces are the bytes that were taken of the link.
+-- What a link did whose text has this head.
 pub record Ran (end : LinkEnd) (grounds : Grounds) (head : Head Upgrade HeadFault) (pieces : List Piece) (start : Serving) (first : List ℕ) (sent : Option (List ℕ)) (seat : Option Seat)
-    (stands : Hub → Type 0) (jobs : Option (List SeenJob)) (failed : Type 0) (left left_now : Option (List ℕ)) : Type 0 where
+    (stands : Hub → Type 0) (jobs : Option (List SeenJob)) (failed : Type 0) (old new : Incoming) : Type 0 where
   pub ended : LinkEnds (link_outcome end) first sent seat stands jobs failed start (link_run grounds head [] pieces start)
-  pub came : asks_framing head.says ≡ false → Takes left left_now (bytes_of pieces)
+  pub came : Come head pieces old new (CouldNotFrame (link_outcome end))
 
--- A link was served until this end: these pieces came, at the moments that the clock told, and the link did what they make.
-pub record WasServed (end : LinkEnd) (grounds : Grounds) (start : Serving) (first : List ℕ) (moments : ℕ → ℕ) (turns : ℕ) (left left_now : Option (List ℕ)) (sent : Option (List ℕ))
+-- A link was served until this end: these pieces came, at the moments that the clock told, and the link did what they make. Where memory
+-- did not run out, what they make is known: their text has a head.
+pub record WasServed (end : LinkEnd) (grounds : Grounds) (start : Serving) (first : List ℕ) (moments : ℕ → ℕ) (turns : ℕ) (old new : Incoming) (sent : Option (List ℕ))
     (seat : Option Seat) (stands : Hub → Type 0) (jobs : Option (List SeenJob)) (failed : Type 0) (now : ℕ) : Type 0 where
   pub pieces : List Piece
   pub reads : ℕ
@@ -259,27 +288,46 @@ pub record WasServed (end : LinkEnd) (grounds : Grounds) (start : Serving) (firs
   pub reads_are : ReadsAre (link_outcome end) (length pieces) reads turns
   pub nows : NowsAre moments 0 pieces
   pub now_is : 0 < reads → now ≡ moments (reads - 1)
+  pub known : OnNotShort (link_outcome end) (HaveHead pieces)
   pub ran : (head : Head Upgrade HeadFault) → IsRequestOf (counted head [] pieces) head
-      → Ran end grounds head pieces start first sent seat stands jobs failed left left_now
+      → Ran end grounds head pieces start first sent seat stands jobs failed old new
 
 -- and then the seat that was not spent was reported lost, at the last moment that was told
-pub record IsServed (end : LinkEnd) (grounds : Grounds) (start : Serving) (first : List ℕ) (moments : ℕ → ℕ) (turns : ℕ) (left left_now : Option (List ℕ)) (sent : Option (List ℕ))
+pub record IsServed (end : LinkEnd) (grounds : Grounds) (start : Serving) (first : List ℕ) (moments : ℕ → ℕ) (turns : ℕ) (old new : Incoming) (sent : Option (List ℕ))
     (stands : Hub → Type 0) (jobs : Option (List SeenJob)) (failed : Type 0) : Type 0 where
   pub seat : Option Seat
   pub now : ℕ
-  pub served : WasServed end grounds start first moments turns left left_now sent seat (λ h. stands (hub_left seat now h)) jobs failed now
+  pub served : WasServed end grounds start first moments turns old new sent seat (λ h. stands (hub_left seat now h)) jobs failed now
+
+-- the link answered its end, or memory ran out
+abbrev pub ClosedOrShort : LinkOutcome → Type 0
+ClosedOrShort link_closed = ⊤
+ClosedOrShort link_broke = ⊥
+ClosedOrShort link_spent = ⊥
+ClosedOrShort (link_over end) = ⊥
+ClosedOrShort link_unkept = ⊥
+ClosedOrShort link_short = ⊤
+
+-- It was served, and where the pieces that came make no end, and are fewer than the turns, the link answered its end or memory ran out.
+pub record IsComplete (end : LinkEnd) (grounds : Grounds) (start : Serving) (first : List ℕ) (moments : ℕ → ℕ) (turns : ℕ) (old new : Incoming) (sent : Option (List ℕ))
+    (stands : Hub → Type 0) (jobs : Option (List SeenJob)) (failed : Type 0) : Type 0 where
+  pub is_served : IsServed end grounds start first moments turns old new sent stands jobs failed
+  pub closes : (head : Head Upgrade HeadFault) → IsRequestOf (counted head [] is_served.served.pieces) head
+      → (link_run grounds head [] is_served.served.pieces start).end ≡ None → length is_served.served.pieces < turns
+      → ClosedOrShort (link_outcome end)
 
 -- ---- so far
 
 pub record SoFarAt (grounds : Grounds) (head : Head Upgrade HeadFault) (pieces : List Piece) (start : Serving) (first : List ℕ) (sent : Option (List ℕ)) (phase : Phase) (next : ℕ → List ℕ)
-    (stands : Hub → Type 0) (jobs : Option (List SeenJob)) (left left_now : Option (List ℕ)) : Type 0 where
+    (stands : Hub → Type 0) (jobs : Option (List SeenJob)) (old new : Incoming) : Type 0 where
   pub core : CoreStands phase grounds head (counted head [] pieces) (link_run grounds head [] pieces start).out next stands jobs [] (link_run grounds head [] pieces start)
   pub sent_is : sent ≡ Some (first ++ (link_run grounds head [] pieces start).out)
   pub happens : Happens start (link_run grounds head [] pieces start)
-  pub came : asks_framing head.says ≡ false → Takes left left_now (bytes_of pieces)
+  pub came : Come head pieces old new ⊥
+  pub behind : IsBehindHead phase head (counted head [] pieces)
 
 -- so many pieces were served, and the link goes on
-pub record SoFar (turn : ℕ) (grounds : Grounds) (start : Serving) (first : List ℕ) (moments : ℕ → ℕ) (left left_now : Option (List ℕ)) (sent : Option (List ℕ)) (phase : Phase) (next : ℕ → List ℕ)
+pub record SoFar (turn : ℕ) (grounds : Grounds) (start : Serving) (first : List ℕ) (moments : ℕ → ℕ) (old new : Incoming) (sent : Option (List ℕ)) (phase : Phase) (next : ℕ → List ℕ)
     (stands : Hub → Type 0) (jobs : Option (List SeenJob)) (tells : Bool) (clock : ℕ → ℕ) (now : ℕ) : Type 0 where
   pub pieces : List Piece
   pub count : length pieces ≡ turn
@@ -287,8 +335,9 @@ pub record SoFar (turn : ℕ) (grounds : Grounds) (start : Serving) (first : Lis
   pub told : tells ≡ true
   pub clock_is : (n : ℕ) → clock n ≡ moments (turn + n)
   pub now_is : 0 < turn → now ≡ moments (turn - 1)
+  pub known : HaveHead pieces
   pub at : (head : Head Upgrade HeadFault) → IsRequestOf (counted head [] pieces) head
-      → SoFarAt grounds head pieces start first sent phase next stands jobs left left_now
+      → SoFarAt grounds head pieces start first sent phase next stands jobs old new
 
 -- nothing came yet
 pub record Starts (grounds : Grounds) (start : Serving) (first : List ℕ) (moments : ℕ → ℕ) (sent : Option (List ℕ)) (phase : Phase) (next : ℕ → List ℕ)
@@ -297,3 +346,4 @@ pub record Starts (grounds : Grounds) (start : Serving) (first : List ℕ) (mome
   pub clock_is : (n : ℕ) → clock n ≡ moments n
   pub sent_is : sent ≡ Some (first ++ start.out)
   pub core : (head : Head Upgrade HeadFault) → IsRequestOf [] head → CoreStands phase grounds head [] start.out next stands jobs [] start
+  pub behind : (head : Head Upgrade HeadFault) → IsBehindHead phase head []

@@ -91,7 +91,7 @@ fn welcome<H: Hub, J: JobSink>(
     ensures seated { IsSeated result }
     ensures made { (place : ℕ) (base : Base) (s v : Serving) → kind ≡ seat.key.kind
         → IsGoing (Some seat) (H.stands hub.old) (J.told jobs.old) base out.old.items (record v { seat = Some seat })
-        → Happens s v
+        → Happens s (record v { seat = Some seat })
         → Makes (outcome_of result.end) result.seat (H.stands hub.new) (J.told jobs.new) base out.new.items s
         (attached seat chunk.now now (welcomed seat place (writes (acceptance_bytes seat.key.kind) v))) }
 {

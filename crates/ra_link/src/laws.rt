@@ -1,8 +1,11 @@
 //! What holds of every served link. Each function has an empty body: its clauses are what is proved.
-ghost use Rattle.std.specs.Prelude.{◌≢◌, ℕ, Some, List};
+ghost use Rattle.std.specs.Prelude.{◌≡◌, ◌≢◌, ℕ, false, None, Some, List};
+ghost use Rattle.ra_base.specs.declared.key.Seat.{Seat};
 ghost use Rattle.ra_items.specs.Heads.{Head};
 ghost use Rattle.ra_opening.specs.Openings.{Grounds};
 ghost use Rattle.ra_session.specs.SessionRefusals.{no_link};
+ghost use Rattle.ra_session.specs.Sessions.{Session};
+ghost use Rattle.ra_session.specs.Turns.{is_ready};
 ghost use Rattle.ra_upgrade.specs.declared.request_head.HeadFault.{HeadFault};
 ghost use Rattle.ra_upgrade.specs.declared.request_head.Upgrade.{Upgrade};
 ghost use Rattle.ra_hub.specs.Hubs.{Hub};
@@ -14,4 +17,12 @@ ghost use Rattle.ra_hub.specs.Running.{HubRuns};
 pub fn never_unlinked()
     ensures { (grounds : Grounds) (head : Head Upgrade HeadFault) (text : List ℕ) (pieces : List Piece) (h : Hub) (jobs : List SeenJob)
         → HubRuns h → (link_run grounds head text pieces (new_serving h jobs)).end ≢ Some (refused_by no_link) }
+{}
+
+/// Behind each piece a session that goes on has no whole frame unread, and no header that states too long a body: the bound of one more
+/// turn for each 13 bytes cuts off none that is due.
+pub fn all_read()
+    ensures { (grounds : Grounds) (head : Head Upgrade HeadFault) (text : List ℕ) (pieces : List Piece) (h : Hub) (jobs : List SeenJob) (seat : Seat) (x : Session)
+        → HubRuns h → let s = link_run grounds head text pieces (new_serving h jobs) in
+        s.seat ≡ Some seat → s.end ≡ None → s.hub.session seat.key ≡ Some x → is_ready x.peer.endpoint ≡ false }
 {}

@@ -5,6 +5,8 @@
 
 mod ask;
 pub mod ends;
+#[cfg(test)]
+mod hostile_tests;
 pub mod laws;
 pub mod link_core;
 mod phase;

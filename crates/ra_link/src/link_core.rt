@@ -5,11 +5,11 @@ ghost use Rattle.ra_upgrade.specs.declared.request_head.HeadFault.{HeadFault};
 ghost use Rattle.ra_upgrade.specs.declared.request_head.Upgrade.{Upgrade};
 ghost use Rattle.ra_opening.specs.Comes.{AsksFraming};
 ghost use Rattle.ra_opening.specs.Openings.{grounds_of};
-ghost use Rattle.ra_opening.specs.Stands.{HasNoHead, IsOpen, NeedsFraming, new_opening};
+ghost use Rattle.ra_opening.specs.Stands.{HasNoHead, IsOpen, IsInShake, NeedsFraming, new_opening};
 ghost use Rattle.ra_hub.specs.Hubs as spec;
 ghost use Rattle.ra_link.specs.LinkRuns.{Serving, piece_done, with_piece, hub_left};
 ghost use Rattle.ra_link.specs.Makes.{Holds, Balance, HasEndCause, outcome_of, opening_end};
-ghost use Rattle.ra_link.specs.Cores.{IsFit, IsOpening, CoreStands, CoreMakes, NotHeld, KnowsHead, OnNoHead, OnOver, HeldOrShort, IsHeld, IsHeldWith, SetsFramed, seat_in, phase_of};
+ghost use Rattle.ra_link.specs.Cores.{IsFit, IsOpening, CoreStands, CoreMakes, NotHeld, KnowsHead, OnNoHead, OnOver, HeldOrShort, IsHeld, IsHeldWith, IsPastHead, OnHeld, SetsFramed, seat_in, phase_of};
 
 use crate::ask::ask;
 use crate::ends::CoreEnd;
@@ -101,6 +101,13 @@ fn open_piece<H: Hub, J: JobSink, E: Entropy, G: Signer>(
     ensures known { HasNoHead opening → KnowsHead (outcome_of result.end) (opening.reader.unread ++ piece.now) }
     ensures framing { HasNoHead opening → AsksFraming (opening.reader.unread ++ piece.now)
         → HeldOrShort (outcome_of result.end) result.phase }
+    ensures once { IsInShake opening.phase → NotHeld result.phase }
+    ensures unread { (draw : ℕ → List ℕ) (head : Head Upgrade HeadFault) (text before : List ℕ) (s : Serving)
+        → IsRequestOf (text ++ piece.now) head → (NeedsFraming opening.phase → ⊥)
+        → let grounds = grounds_of settings.now.shake (G.signature_of signer.now) (G.counts signer.now) draw in
+        IsOpening opening grounds head text before (E.draw entropy.old) (H.stands hub.old) (J.told jobs.old)
+        out.old.items s
+        → OnHeld result.phase (λ front. text ++ piece.now ≡ with_piece head text piece.now ++ front) }
 {
     match opening.piece(alloc, entropy, signer, &settings.shake, piece, out) {
         OpeningStep::Waits => After {
@@ -147,6 +154,13 @@ fn take_piece<H: Hub, J: JobSink, E: Entropy, G: Signer>(
     ensures known { OnNoHead phase (λ unread. KnowsHead (outcome_of result.end) (unread ++ piece.now)) }
     ensures framing { OnNoHead phase (λ unread. AsksFraming (unread ++ piece.now)
         → HeldOrShort (outcome_of result.end) result.phase) }
+    ensures once { IsPastHead phase → NotHeld result.phase }
+    ensures unread { (draw : ℕ → List ℕ) (head : Head Upgrade HeadFault) (text before : List ℕ) (s : Serving)
+        → IsRequestOf (text ++ piece.now) head → NotHeld phase
+        → let grounds = grounds_of settings.now.shake (G.signature_of signer.now) (G.counts signer.now) draw in
+        CoreStands phase grounds head text before (E.draw entropy.old) (H.stands hub.old) (J.told jobs.old)
+        out.old.items s
+        → OnHeld result.phase (λ front. text ++ piece.now ≡ with_piece head text piece.now ++ front) }
     ensures over { OnOver phase ((result ≡ record { phase = Phase.Over; end = None }) × (out.new.items ≡ out.old.items)) }
 {
     match phase {
@@ -230,6 +244,14 @@ impl LinkCore {
         ensures known { OnNoHead self.old (λ unread. KnowsHead (outcome_of result) (unread ++ piece.now)) }
         ensures framing { OnNoHead self.old (λ unread. AsksFraming (unread ++ piece.now)
             → HeldOrShort (outcome_of result) self.new) }
+        // it waits to be framed only as its head ends, and what is unread then is what does not count
+        ensures once { IsPastHead self.old → NotHeld self.new }
+        ensures unread { (draw : ℕ → List ℕ) (head : Head Upgrade HeadFault) (text before : List ℕ) (s : Serving)
+            → IsRequestOf (text ++ piece.now) head → NotHeld self.old
+            → let grounds = grounds_of settings.now.shake (G.signature_of signer.now) (G.counts signer.now) draw in
+            CoreStands self.old grounds head text before (E.draw entropy.old) (H.stands hub.old) (J.told jobs.old)
+            out.old.items s
+            → OnHeld self.new (λ front. text ++ piece.now ≡ with_piece head text piece.now ++ front) }
         ensures over { OnOver self.old ((result ≡ None) × (self.new ≡ self.old) × (out.new.items ≡ out.old.items)) }
     {
         let phase = mem::replace(&mut self.phase, Phase::Over);

@@ -5,13 +5,14 @@ ghost use Rattle.ra_upgrade.specs.declared.request_head.HeadFault.{HeadFault};
 ghost use Rattle.ra_upgrade.specs.declared.request_head.Upgrade.{Upgrade};
 ghost use Rattle.ra_opening.specs.Openings.{grounds_of};
 ghost use Rattle.ra_ports.specs.Causes.{Rose};
+ghost use Rattle.ra_ports.specs.Links.{StartsPayload};
 ghost use Rattle.ra_base.specs.declared.key.Seat.{Seat};
 ghost use Rattle.ra_hub.specs.Hubs as spec;
 ghost use Rattle.ra_hub.specs.Jobs.{SeenJob};
-ghost use Rattle.ra_link.specs.LinkRuns.{Serving, asks_framing, piece_done, with_piece, new_serving};
+ghost use Rattle.ra_link.specs.LinkRuns.{Serving, piece_done, with_piece, new_serving};
 ghost use Rattle.ra_link.specs.Makes.{Happens, Holds, Balance};
-ghost use Rattle.ra_link.specs.Cores.{CoreStands, NotHeld, IsHeld, SetsFramed, seat_in};
-ghost use Rattle.ra_link.specs.Served.{AfterPiece, Starts, WasServed, IsServed, IsPieceEnd, OnSome, OnBroke, OnNotKept, EndedSo, OnFramed, MadeCalls, raised, link_outcome, link_end, broken_end, got_len};
+ghost use Rattle.ra_link.specs.Cores.{CoreStands, NotHeld, IsHeld, IsBehindHead, OnHeld, OnNoHead, SetsFramed, seat_in};
+ghost use Rattle.ra_link.specs.Served.{AfterPiece, Starts, WasServed, IsServed, IsComplete, IsPieceEnd, OnSome, OnBroke, OnNotKept, EndedSo, OnFramed, Frames, LinkKnows, MadeCalls, raised, link_outcome, link_end, broken_end, got_len};
 
 use crate::ends::{CoreEnd, LinkEnd};
 use crate::link_core::{LinkCore, Settings};
@@ -76,6 +77,8 @@ fn frame_link<L: Link>(link: &mut L, core: &mut LinkCore) -> Option<LinkEnd>
         → (result ≡ None) × (core.new ≡ core.old) × (L.incoming link.new ≡ L.incoming link.old) }
     ensures held { IsHeld core.old → OnFramed result (SetsFramed core.old core.new) (core.new ≡ core.old) }
     ensures framed { result ≡ None → NotHeld core.new }
+    ensures payload { result ≡ None
+        → OnHeld core.old (λ front. StartsPayload (L.incoming link.old) (L.incoming link.new) front) }
     ensures seat { seat_in core.new ≡ seat_in core.old }
     ensures sent { L.sent link.new ≡ L.sent link.old }
     ensures ended { (L.incoming link.new).ended ≡ (L.incoming link.old).ended }
@@ -129,11 +132,12 @@ fn serve_piece<L: Link, H: Hub, J: JobSink, E: Entropy, G: Signer>(
         → AfterPiece result core.new grounds head (with_piece head text piece.now) (E.draw entropy.new) first
         (L.sent link.new) (H.stands hub.new) (J.told jobs.new) (Rose (L.faults link.old) (L.faults link.new)) start
         (piece_done grounds head text (record { bytes = piece.now; now = now }) s) }
-    ensures came { (draw : ℕ → List ℕ) (head : Head Upgrade HeadFault) (text first : List ℕ) (start s : Serving)
-        → IsRequestOf (text ++ piece.now) head → NotHeld core.old
+    ensures known { OnNoHead core.old (λ unread. LinkKnows result (unread ++ piece.now)) }
+    ensures came { (draw : ℕ → List ℕ) (head : Head Upgrade HeadFault) (text : List ℕ) (s : Serving)
+        → IsRequestOf (text ++ piece.now) head → NotHeld core.old → IsBehindHead core.old head text
         → let grounds = grounds_of settings.now.shake (G.signature_of signer.now) (G.counts signer.now) draw in
         CoreStands core.old grounds head text s.out (E.draw entropy.old) (H.stands hub.old) (J.told jobs.old) [] s
-        → asks_framing head.says ≡ false → (L.incoming link.new).left ≡ (L.incoming link.old).left }
+        → Frames result head text piece.now (L.incoming link.old) (L.incoming link.new) }
 {
     let mut out = Vec::new(alloc);
     let end = core.piece(
@@ -200,7 +204,7 @@ fn serve_pieces<L: Link, H: Hub, J: JobSink, C: Clock, E: Entropy, G: Signer>(
         → let grounds = grounds_of settings.now.shake (G.signature_of signer.now) (G.counts signer.now) draw in
         Starts grounds start first moments (L.sent link.old) core.old (E.draw entropy.old) (H.stands hub.old)
         (J.told jobs.old) (C.tells clock.old) (C.moment clock.old)
-        → WasServed result.end grounds start first moments turns (L.incoming link.old).left (L.incoming link.new).left
+        → WasServed result.end grounds start first moments turns (L.incoming link.old) (L.incoming link.new)
         (L.sent link.new) (seat_in core.new) (H.stands hub.new) (J.told jobs.new)
         (Rose (L.faults link.old) (L.faults link.new)) result.now }
 {
@@ -259,7 +263,15 @@ pub fn serve_link<L: Link, H: Hub, J: JobSink, C: Clock, E: Entropy, G: Signer>(
         → L.sent link.old ≡ Some first → H.stands hub.old h → J.told jobs.old ≡ Some js → C.tells clock.old ≡ true
         → IsServed result
         (grounds_of settings.now.shake (G.signature_of signer.now) (G.counts signer.now) (E.draw entropy.old))
-        (new_serving h js) first (C.moment clock.old) turns (L.incoming link.old).left (L.incoming link.new).left
+        (new_serving h js) first (C.moment clock.old) turns (L.incoming link.old) (L.incoming link.new)
+        (L.sent link.new) (H.stands hub.new) (J.told jobs.new) (Rose (L.faults link.old) (L.faults link.new)) }
+    ensures complete { (first : List ℕ) (h : spec.Hub) (js : List SeenJob)
+        → L.sent link.old ≡ Some first → H.stands hub.old h → J.told jobs.old ≡ Some js → C.tells clock.old ≡ true
+        → (Rose (L.faults link.old) (L.faults link.new) → ⊥)
+        → (Rose (H.keep_faults hub.old) (H.keep_faults hub.new) → ⊥)
+        → IsComplete result
+        (grounds_of settings.now.shake (G.signature_of signer.now) (G.counts signer.now) (E.draw entropy.old))
+        (new_serving h js) first (C.moment clock.old) turns (L.incoming link.old) (L.incoming link.new)
         (L.sent link.new) (H.stands hub.new) (J.told jobs.new) (Rose (L.faults link.old) (L.faults link.new)) }
 {
     let mut core = LinkCore::new(alloc);

@@ -131,6 +131,7 @@ fn take_piece<E: Entropy, G: Signer>(
     ensures framing { phase ≡ Phase.Heading → AsksFraming reader.old.unread
         → WaitsForFraming result.step result.phase out.old.items out.new.items }
     ensures once { IsInShake phase → NeedsFraming result.phase → ⊥ }
+    ensures draws { (phase ≡ Phase.Heading → ⊥) → E.draw entropy.new ≡ E.draw entropy.old }
     ensures served { AsksServed result.step }
     ensures fits { PhaseFits result.phase reader.new }
     ensures open { result.step ≡ OpeningStep.Waits → result.phase ≢ Phase.Over }
@@ -213,6 +214,7 @@ impl Opening {
         ensures framing { HasNoHead self.old → AsksFraming (self.old.reader.unread ++ piece.now)
             → WaitsForFraming result self.new.phase out.old.items out.new.items }
         ensures once { IsInShake self.old.phase → NeedsFraming self.new.phase → ⊥ }
+        ensures draws { (HasNoHead self.old → ⊥) → E.draw entropy.new ≡ E.draw entropy.old }
         ensures served { AsksServed result }
         ensures open { result ≡ OpeningStep.Waits → IsOpen self.new }
     {

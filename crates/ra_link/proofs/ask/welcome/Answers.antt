@@ -1,3 +1,4 @@
+use Rattle.std.proofs.Common.{Some}
 use Rattle.ra_link.specs.LinkRuns.{welcomed, writes}
 use Rattle.ra_opening.specs.Verdicts.{acceptance_bytes}
 use Rattle.ra_link.proofs.GrowLemmas.{happens_more}
@@ -12,4 +13,4 @@ pub returns-in-Ok-clause-made : goal.returns-in-Ok-clause-made
 returns-in-Ok-clause-made g c = λ place base s v is going grows.
     let w = welcomed c.args.seat place (writes (acceptance_bytes c.args.seat.key.kind) v) in
     let going' = welcomes c.args.kind c.args.seat place (g.H.Hub.stands c.args.hub.now) _ base _ _ v is c.in-Ok.ensures.ok going in
-    c.begin.ensures.made base s w going' (happens_more s v w grows (grows_welcomed c.args.seat place v))
+    c.begin.ensures.made base s w going' (happens_more s (record v { seat = Some c.args.seat }) w grows (grows_welcomed c.args.seat place v))

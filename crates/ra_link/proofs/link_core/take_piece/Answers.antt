@@ -1,6 +1,6 @@
 use Rattle.ra_opening.specs.Openings.{Grounds, grounds_of}
 use Rattle.ra_link.specs.Cores.{base_of}
-use Rattle.ra_link.proofs.GrowLemmas.{happens_same}
+use Rattle.ra_link.proofs.GrowLemmas.{happens_refl}
 use Rattle.ra_link.proofs.PieceLemmas.{piece_seated, core_of_step}
 use Rattle.ra_link.proofs.link_core.take_piece.Goals as goal
 
@@ -8,7 +8,7 @@ pub returns-in-Seated-clause-made : goal.returns-in-Seated-clause-made
 returns-in-Seated-clause-made g c = λ draw head text before s is unheld stands.
     let x = rw c.in-Seated.is at stands in
     let grounds : Grounds = grounds_of c.args.settings.now.shake (g.G.Signer.signature_of c.args.signer.now) (g.G.Signer.counts c.args.signer.now) draw in
-    let made = c.serve_turns.ensures.made (base_of grounds before (g.E.Entropy.draw c.args.entropy.now)) s s x (happens_same s s.out s.drawn s.seat s.welcome s.end) in
+    let made = c.serve_turns.ensures.made (base_of grounds before (g.E.Entropy.draw c.args.entropy.now)) s s x (happens_refl s) in
     let served = piece_seated grounds head text (record { bytes = c.args.piece.now; now = c.args.now }) c.in-Seated.seat s x.seat_is x.end_is in
     let core = core_of_step c.serve_turns.result grounds head _ before _ _ _ _ s _ c.serve_turns.ensures.seated made in
     rw c.after_step.ensures (rw served core)

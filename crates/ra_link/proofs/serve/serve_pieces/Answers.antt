@@ -35,10 +35,10 @@ returns-in-Err-clause-made g c = λ draw first start moments starts.
     let grounds : Grounds = grounds_of c.args.settings.now.shake (g.G.Signer.signature_of c.args.signer.now) (g.G.Signer.counts c.args.signer.now) draw in
     let s = c.loop-turn.invariant.7 draw first start moments starts in
     rw c.ending_at.ensures
-    (failed_there c.loop-turn.turn c.args.turns grounds start first moments (g.L.Link.incoming c.args.link.now).left (g.L.Link.incoming c.loop-turn.link).left (g.L.Link.incoming c.recv-got.new.self).left
+    (failed_there c.loop-turn.turn c.args.turns grounds start first moments (g.L.Link.incoming c.args.link.now) (g.L.Link.incoming c.loop-turn.link) (g.L.Link.incoming c.recv-got.new.self)
     (g.L.Link.sent c.loop-turn.link) (g.L.Link.sent c.recv-got.new.self) c.loop-turn.core (g.E.Entropy.draw c.loop-turn.entropy) (g.H.Hub.stands c.loop-turn.hub) (g.J.JobSink.told c.loop-turn.jobs)
     (g.C.Clock.tells c.loop-turn.clock) (g.C.Clock.moment c.loop-turn.clock) c.loop-turn.now (Rose (g.L.Link.faults c.args.link.now) (g.L.Link.faults c.recv-got.new.self)) c.now-now.result s
-    c.loop-turn-test.true c.now-now.ensures.value c.in-Err.ensures.keeps c.in-Err.ensures.bytes)
+    c.loop-turn-test.true c.now-now.ensures.value c.in-Err.ensures.keeps c.in-Err.ensures.bytes c.in-Err.ensures.payload)
 
 pub returns-in-None-clause-calls : goal.returns-in-None-clause-calls
 returns-in-None-clause-calls g c =
@@ -56,10 +56,10 @@ returns-in-None-clause-made g c = λ draw first start moments starts.
     let s = c.loop-turn.invariant.7 draw first start moments starts in
     let took = rw (got_none c.in-Ok.got c.recv-got.new.into (sym c.in-None.ensures)) at c.in-Ok.ensures.bytes in
     rw c.ending_at-in-None.ensures
-    (closed_there c.loop-turn.turn c.args.turns grounds start first moments (g.L.Link.incoming c.args.link.now).left (g.L.Link.incoming c.loop-turn.link).left (g.L.Link.incoming c.recv-got.new.self).left
+    (closed_there c.loop-turn.turn c.args.turns grounds start first moments (g.L.Link.incoming c.args.link.now) (g.L.Link.incoming c.loop-turn.link) (g.L.Link.incoming c.recv-got.new.self)
     (g.L.Link.sent c.loop-turn.link) (g.L.Link.sent c.recv-got.new.self) c.loop-turn.core (g.E.Entropy.draw c.loop-turn.entropy) (g.H.Hub.stands c.loop-turn.hub) (g.J.JobSink.told c.loop-turn.jobs)
     (g.C.Clock.tells c.loop-turn.clock) (g.C.Clock.moment c.loop-turn.clock) c.loop-turn.now (Rose (g.L.Link.faults c.args.link.now) (g.L.Link.faults c.recv-got.new.self)) c.now-now.result s
-    c.loop-turn-test.true c.now-now.ensures.value c.in-Ok.ensures.keeps took)
+    c.loop-turn-test.true c.now-now.ensures.value c.in-Ok.ensures.keeps took c.in-Ok.ensures.payload)
 
 pub returns-in-Some-serve_piece-clause-calls : goal.returns-in-Some-serve_piece-clause-calls
 returns-in-Some-serve_piece-clause-calls g c =
@@ -82,7 +82,7 @@ returns-in-Some-serve_piece-clause-made g c = λ draw first start moments starts
     rw (got_piece c.in-Ok.got n c.recv-got.new.into (sym c.in-Some.ensures)) at c.in-Ok.ensures.bytes in
     let came : PieceCame (Some c.in-Some-serve_piece.end) grounds piece c.now-now.result first c.loop-turn.core c.serve_piece.new.core (g.L.Link.sent c.loop-turn.link) (g.L.Link.sent c.serve_piece.new.link)
     (g.E.Entropy.draw c.loop-turn.entropy) (g.E.Entropy.draw c.serve_piece.new.entropy) (g.H.Hub.stands c.loop-turn.hub) (g.H.Hub.stands c.serve_piece.new.hub)
-    (g.J.JobSink.told c.loop-turn.jobs) (g.J.JobSink.told c.serve_piece.new.jobs) (g.L.Link.incoming c.loop-turn.link).left (g.L.Link.incoming c.serve_piece.new.link).left
+    (g.J.JobSink.told c.loop-turn.jobs) (g.J.JobSink.told c.serve_piece.new.jobs) (g.L.Link.incoming c.args.link.now) (g.L.Link.incoming c.loop-turn.link) (g.L.Link.incoming c.recv-got.new.self) (g.L.Link.incoming c.serve_piece.new.link)
     (Rose (g.L.Link.faults c.args.link.now) (g.L.Link.faults c.serve_piece.new.link)) = record {
       made = λ head text begin v is stands sent happens.
           after_failed (Some c.in-Some-serve_piece.end) c.serve_piece.new.core grounds head (with_piece head text piece) (g.E.Entropy.draw c.serve_piece.new.entropy) first (g.L.Link.sent c.serve_piece.new.link)
@@ -90,13 +90,15 @@ returns-in-Some-serve_piece-clause-made g c = λ draw first start moments starts
           (Rose (g.L.Link.faults c.args.link.now) (g.L.Link.faults c.serve_piece.new.link)) begin (piece_done grounds head text (piece_at piece c.now-now.result) v)
           (λ r. rose_from _ _ _ less r)
           (c.in-Some-serve_piece.ensures.made draw head text first begin v is c.loop-turn.invariant.2 stands (c.in-Ok.ensures.keeps ∙ sent) happens);
-      came = λ head text v is stands asks. λ whole told.
-          let t = took whole told in
-          let same = c.in-Some-serve_piece.ensures.came draw head text first start v is c.loop-turn.invariant.2 stands asks in
-          (t.0, t.1, same ∙ t.2);
+      took = took;
+      keeps = c.in-Ok.ensures.payload;
+      goes = λ going. c.in-Ok.ensures.ended ∙ got_goes c.in-Ok.got n _ (sym c.in-Some.ensures) ∙ c.loop-turn.invariant.5 going;
+      free = c.loop-turn.invariant.2;
+      known = c.in-Some-serve_piece.ensures.known;
+      came = λ head text v is stands behind. c.in-Some-serve_piece.ensures.came draw head text v is c.loop-turn.invariant.2 behind stands;
     } in
     rw c.ending_at-in-Some-serve_piece.ensures
-    (ended_there c.in-Some-serve_piece.end c.loop-turn.turn c.args.turns grounds start first moments (g.L.Link.incoming c.args.link.now).left (g.L.Link.incoming c.loop-turn.link).left (g.L.Link.incoming c.serve_piece.new.link).left
+    (ended_there c.in-Some-serve_piece.end c.loop-turn.turn c.args.turns grounds start first moments (g.L.Link.incoming c.args.link.now) (g.L.Link.incoming c.loop-turn.link) (g.L.Link.incoming c.recv-got.new.self) (g.L.Link.incoming c.serve_piece.new.link)
     (g.L.Link.sent c.loop-turn.link) (g.L.Link.sent c.serve_piece.new.link) c.loop-turn.core c.serve_piece.new.core (g.E.Entropy.draw c.loop-turn.entropy) (g.E.Entropy.draw c.serve_piece.new.entropy)
     (g.H.Hub.stands c.loop-turn.hub) (g.H.Hub.stands c.serve_piece.new.hub) (g.J.JobSink.told c.loop-turn.jobs) (g.J.JobSink.told c.serve_piece.new.jobs)
     (g.C.Clock.tells c.loop-turn.clock) (g.C.Clock.moment c.loop-turn.clock) c.loop-turn.now (Rose (g.L.Link.faults c.args.link.now) (g.L.Link.faults c.serve_piece.new.link)) piece c.now-now.result s
@@ -121,7 +123,7 @@ loop-turn-preserved g c = (
       rw (got_piece c.in-Ok.got n c.recv-got.new.into (sym c.in-Some.ensures)) at c.in-Ok.ensures.bytes in
       let came : PieceCame None grounds piece c.now-now.result first c.loop-turn.core c.serve_piece.new.core (g.L.Link.sent c.loop-turn.link) (g.L.Link.sent c.serve_piece.new.link)
       (g.E.Entropy.draw c.loop-turn.entropy) (g.E.Entropy.draw c.serve_piece.new.entropy) (g.H.Hub.stands c.loop-turn.hub) (g.H.Hub.stands c.serve_piece.new.hub)
-      (g.J.JobSink.told c.loop-turn.jobs) (g.J.JobSink.told c.serve_piece.new.jobs) (g.L.Link.incoming c.loop-turn.link).left (g.L.Link.incoming c.serve_piece.new.link).left
+      (g.J.JobSink.told c.loop-turn.jobs) (g.J.JobSink.told c.serve_piece.new.jobs) (g.L.Link.incoming c.args.link.now) (g.L.Link.incoming c.loop-turn.link) (g.L.Link.incoming c.recv-got.new.self) (g.L.Link.incoming c.serve_piece.new.link)
       (Rose (g.L.Link.faults c.args.link.now) (g.L.Link.faults c.serve_piece.new.link)) = record {
         made = λ head text begin v is stands sent happens.
             after_failed None c.serve_piece.new.core grounds head (with_piece head text piece) (g.E.Entropy.draw c.serve_piece.new.entropy) first (g.L.Link.sent c.serve_piece.new.link)
@@ -129,12 +131,14 @@ loop-turn-preserved g c = (
             (Rose (g.L.Link.faults c.args.link.now) (g.L.Link.faults c.serve_piece.new.link)) begin (piece_done grounds head text (piece_at piece c.now-now.result) v)
             (λ r. rose_from _ _ _ less r)
             (c.in-None-serve_piece.ensures.made draw head text first begin v is c.loop-turn.invariant.2 stands (c.in-Ok.ensures.keeps ∙ sent) happens);
-        came = λ head text v is stands asks. λ whole told.
-            let t = took whole told in
-            let same = c.in-None-serve_piece.ensures.came draw head text first start v is c.loop-turn.invariant.2 stands asks in
-            (t.0, t.1, same ∙ t.2);
+        took = took;
+        keeps = c.in-Ok.ensures.payload;
+        goes = λ going. c.in-Ok.ensures.ended ∙ got_goes c.in-Ok.got n _ (sym c.in-Some.ensures) ∙ c.loop-turn.invariant.5 going;
+        free = c.loop-turn.invariant.2;
+        known = c.in-None-serve_piece.ensures.known;
+        came = λ head text v is stands behind. c.in-None-serve_piece.ensures.came draw head text v is c.loop-turn.invariant.2 behind stands;
       } in
-      goes_there c.loop-turn.turn grounds start first moments (g.L.Link.incoming c.args.link.now).left (g.L.Link.incoming c.loop-turn.link).left (g.L.Link.incoming c.serve_piece.new.link).left
+      goes_there c.loop-turn.turn grounds start first moments (g.L.Link.incoming c.args.link.now) (g.L.Link.incoming c.loop-turn.link) (g.L.Link.incoming c.recv-got.new.self) (g.L.Link.incoming c.serve_piece.new.link)
       (g.L.Link.sent c.loop-turn.link) (g.L.Link.sent c.serve_piece.new.link) c.loop-turn.core c.serve_piece.new.core (g.E.Entropy.draw c.loop-turn.entropy) (g.E.Entropy.draw c.serve_piece.new.entropy)
       (g.H.Hub.stands c.loop-turn.hub) (g.H.Hub.stands c.serve_piece.new.hub) (g.J.JobSink.told c.loop-turn.jobs) (g.J.JobSink.told c.serve_piece.new.jobs)
       (g.C.Clock.tells c.loop-turn.clock) (g.C.Clock.tells c.now-now.new.self) (g.C.Clock.moment c.loop-turn.clock) (g.C.Clock.moment c.now-now.new.self) c.loop-turn.now
@@ -147,4 +151,6 @@ returns-clause-made g c = λ draw first start moments starts.
     let grounds : Grounds = grounds_of c.args.settings.now.shake (g.G.Signer.signature_of c.args.signer.now) (g.G.Signer.counts c.args.signer.now) draw in
     let end : c.loop-turn.turn ≡ c.args.turns = omega (arith, c.loop-turn-test.false, c.loop-turn.auto.turn-end) in
     rw c.ending_at-2.ensures
-    (spent_there c.loop-turn.turn c.args.turns grounds start first moments _ _ _ c.loop-turn.core _ _ _ _ _ _ c.loop-turn.now (c.loop-turn.invariant.7 draw first start moments starts) end)
+    (spent_there c.loop-turn.turn c.args.turns grounds start first moments (g.L.Link.incoming c.args.link.now) (g.L.Link.incoming c.loop-turn.link) (g.L.Link.sent c.loop-turn.link) c.loop-turn.core
+    (g.E.Entropy.draw c.loop-turn.entropy) (g.H.Hub.stands c.loop-turn.hub) (g.J.JobSink.told c.loop-turn.jobs) (g.C.Clock.tells c.loop-turn.clock) (g.C.Clock.moment c.loop-turn.clock)
+    (Rose (g.L.Link.faults c.args.link.now) (g.L.Link.faults c.loop-turn.link)) c.loop-turn.now (c.loop-turn.invariant.7 draw first start moments starts) end)

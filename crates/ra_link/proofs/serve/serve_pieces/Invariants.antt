@@ -17,4 +17,4 @@ invariant-loop-turn g l = Holds (g.H.Hub.seats l.hub) (seat_in l.core)
     × ((draw : ℕ → List ℕ) (first : List ℕ) (start : Serving) (moments : ℕ → ℕ)
     → let grounds = grounds_of l.settings.shake (g.G.Signer.signature_of l.signer) (g.G.Signer.counts l.signer) draw in
     Starts grounds start first moments (g.L.Link.sent l.fn.link) l.fn.core (g.E.Entropy.draw l.fn.entropy) (g.H.Hub.stands l.fn.hub) (g.J.JobSink.told l.fn.jobs) (g.C.Clock.tells l.fn.clock) (g.C.Clock.moment l.fn.clock)
-    → SoFar l.turn grounds start first moments (g.L.Link.incoming l.fn.link).left (g.L.Link.incoming l.link).left (g.L.Link.sent l.link) l.core (g.E.Entropy.draw l.entropy) (g.H.Hub.stands l.hub) (g.J.JobSink.told l.jobs) (g.C.Clock.tells l.clock) (g.C.Clock.moment l.clock) l.now)
+    → SoFar l.turn grounds start first moments (g.L.Link.incoming l.fn.link) (g.L.Link.incoming l.link) (g.L.Link.sent l.link) l.core (g.E.Entropy.draw l.entropy) (g.H.Hub.stands l.hub) (g.J.JobSink.told l.jobs) (g.C.Clock.tells l.clock) (g.C.Clock.moment l.clock) l.now)

@@ -14,4 +14,4 @@ returns-clause-made g c = λ n base s v going grows.
     let put = rw c.same.ensures at c.put_job.ensures in
     let wrote : c.write.new.out.items ≡ c.args.out.now.items ++ c.args.turn.out = rw c.as_slice.ensures at c.in-Ok.ensures.ok in
     let going' = written c.args.turn.out _ (g.H.Hub.stands c.args.hub.now) _ _ base _ _ v going put wrote in
-    c.after_turn.ensures.made n _ base c.write.new.out.items s (writes c.args.turn.out v) _ going' (happens_more s v (writes c.args.turn.out v) grows (grows_writes v c.args.turn.out v.seat v.welcome v.end)) refl
+    c.after_turn.ensures.made n _ base c.write.new.out.items s (writes c.args.turn.out v) _ going' (happens_more s v (writes c.args.turn.out v) grows (grows_writes v c.args.turn.out v.welcome v.end)) refl
