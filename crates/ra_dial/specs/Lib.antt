@@ -6,6 +6,7 @@ pub mod Clients
 pub mod Handshakes
 pub mod Acts
 pub mod Attempts
+pub mod Calling
 pub mod Links
 pub mod Table
 pub mod DialerStates

@@ -9,6 +9,7 @@ ghost use Rattle.ra_session.specs.SessionRefusals as refusals;
 ghost use Rattle.ra_session.specs.SessionRefusals.{Refuses};
 ghost use Rattle.ra_session.specs.View.{RoleFits, outcome_of};
 ghost use Rattle.ra_session.specs.declared.values.Role.TheVariants as roles;
+ghost use Rattle.ra_dial.specs.Calling.{is_calling};
 ghost use Rattle.ra_dial.specs.Clients.{CanDial};
 ghost use Rattle.ra_dial.specs.Table as spec;
 ghost use Rattle.ra_dial.specs.DialerStates.{OfEachDialer, DialerBecomes, StandsForDialer};
@@ -61,6 +62,17 @@ impl Dialer {
             outgoing: Outgoing::new(alloc),
             session,
         })
+    }
+
+    /// Whether it waits for a link that it asked for.
+    pub fn is_calling(&self) -> bool
+        ensures { OfEachDialer self.now (λ d. result ≡ is_calling d.stage) }
+    {
+        match &self.stage {
+            Stage::Calling { .. } => true,
+            Stage::Resting { .. } | Stage::Shaking { .. } | Stage::Attached | Stage::Over { .. } =>
+                false,
+        }
     }
 
     /// The next bytes that are to be put on the link, in order; none where none are left, or while the peer of an attached session
