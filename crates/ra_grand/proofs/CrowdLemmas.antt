@@ -1,17 +1,19 @@
 -- The clients of a world, one after the other.
-use Rattle.std.proofs.Common.{◌≡◌, inl, inr, ℕ, zero, suc, ◌<◌, ◌≤◌, Option, Some, None, Result, Ok, Err, OnErr, IfOk, List, [], ◌∷◌, length, refl, ap, sym, subst, arith}
+use Rattle.std.proofs.Common.{◌≡◌, inl, inr, ℕ, zero, suc, ◌<◌, ◌≤◌, Option, Some, None, Result, Ok, Err, OnOk, OnErr, IfOk, List, [], ◌∷◌, length, refl, ap, sym, ◌∙◌, subst, arith}
 use Rattle.std.specs.Prelude.{ℤ, slice_set, slice_index_or, slice_get}
 use Rattle.ra_session.specs.declared.values.SessionFault.{SessionFault}
 use Rattle.ra_session.specs.SessionRefusals.{Refusal}
 use Rattle.ra_session.specs.Sessions.{Session}
 use Rattle.ra_base.specs.declared.memory.NoMemory.{NoMemory}
-use Rattle.ra_model.specs.Links.{at_number}
+use Rattle.ra_model.specs.Links.{Link, at_number}
 use Rattle.ra_dial.specs.declared.values.DialAct.{DialAct}
 use Rattle.ra_dial.specs.declared.values.DialEvent.{DialEvent}
 use Rattle.ra_dial.specs.Acts.{act_of}
-use Rattle.ra_grand.specs.ClientStates.{ClientState, StandsForClient, StaysClient, Dials, Asks, IsNextId}
+use Rattle.ra_grand.specs.ClientLinks.{LinkTurns, LinkTurnsAt, links_at, IsFlushedAt}
+use Rattle.ra_grand.specs.ClientStates.{ClientState, StandsForClient, StaysClient, IsFlushed, Dials, Asks, IsNextId}
 use Rattle.ra_grand.specs.GrandClients.{Client, dialled, asked}
 use Rattle.ra_grand.specs.Crowds.{ClientsStand, ClientsStay, DialsAt, AsksAt, IsNextIdAt}
+use Rattle.ra_grand.specs.Grands.{with_link}
 use Rattle.ra_grand.specs.GrandStates.{IsIndex}
 
 pub count : (hs : List ClientState) (cs : List Client) → ClientsStand hs cs → length hs ≡ length cs
@@ -98,3 +100,38 @@ asks_in (Err fault) hs n d h call refusal asks =
 pub next_id_in : (r : Result ℤ SessionFault) (hs : List ClientState) (n : ℕ) (d : ClientState) → IfOk r (λ id. IsNextId (slice_index_or hs n d) id) → IfOk r (λ id. IsNextIdAt n hs id)
 next_id_in (Ok id) hs n d next = λ cs c all is. next c (one hs cs n d c all is)
 next_id_in (Err fault) hs n d next = next
+
+-- ---- one link of a client
+
+pub turns_at : (k : ℕ) (change : Link → Link) (hs : List ClientState) (n : ℕ) (d h : ClientState) → LinkTurns k change (slice_index_or hs n d) h → LinkTurnsAt n k change hs (slice_set hs n h)
+turns_at k change hs n d h turns = λ cs c l m all is at becomes. set_one hs cs n h (with_link (suc k) m c) all (turns c l m (one hs cs n d c all is) at becomes)
+
+pub turns_in : {X E : Type 0} → (r : Result X E) (k : ℕ) (change : Link → Link) (hs : List ClientState) (n : ℕ) (d h : ClientState) → OnOk r (LinkTurns k change (slice_index_or hs n d) h)
+    → OnOk r (LinkTurnsAt n k change hs (slice_set hs n h))
+turns_in (Ok x) k change hs n d h turns = turns_at k change hs n d h turns
+turns_in (Err e) k change hs n d h turns = turns
+
+pub stay_in : {X E : Type 0} → (r : Result X E) (hs : List ClientState) (n : ℕ) (d h : ClientState) → OnErr r (StaysClient (slice_index_or hs n d) h) → OnErr r (ClientsStay hs (slice_set hs n h))
+stay_in (Ok x) hs n d h stays = stays
+stay_in (Err e) hs n d h stays = λ cs all. same_one hs cs n d h all stays
+
+pub set_there : (hs : List ClientState) (n : ℕ) (h : ClientState) → n < length hs → slice_get (slice_set hs n h) n ≡ Some h
+set_there [] n h less = absurd (omega (arith, less))
+set_there (x ∷ hs) zero h less = refl
+set_there (x ∷ hs) (suc n) h less = set_there hs n h (omega (arith, less))
+
+pub index_there : (hs : List ClientState) (n : ℕ) (d : ClientState) → n < length hs → slice_get hs n ≡ Some (slice_index_or hs n d)
+index_there [] n d less = absurd (omega (arith, less))
+index_there (x ∷ hs) zero d less = refl
+index_there (x ∷ hs) (suc n) d less = index_there hs n d (omega (arith, less))
+
+pub flushed_at : {X E : Type 0} → (r : Result X E) (hs : List ClientState) (n : ℕ) (d h : ClientState) → n < length hs → OnOk r (IsFlushed (slice_index_or hs n d) h) → OnOk r (h.held ≡ [])
+    → OnOk r (IsFlushedAt n hs (slice_set hs n h))
+flushed_at (Ok x) hs n d h less flushed none = λ cs c all is. (h, set_there hs n h less, flushed c (one hs cs n d c all is), none)
+flushed_at (Err e) hs n d h less flushed none = flushed
+
+-- as many links as before
+pub as_many : (hs : List ClientState) (n : ℕ) (d h : ClientState) → n < length hs → length h.links ≡ length (slice_index_or hs n d).links
+    → length (links_at (slice_get (slice_set hs n h) n)) ≡ length (links_at (slice_get hs n))
+as_many hs n d h less same =
+    ap (λ (x : Option ClientState). length (links_at x)) (set_there hs n h less) ∙ same ∙ ap (λ (x : Option ClientState). length (links_at x)) (sym (index_there hs n d less))

@@ -60,14 +60,14 @@ unfolding take_out
 taken_twice s = ap (λ (e : Endpoint). record s { peer = record { endpoint = e; heard = s.peer.heard; applied = s.peer.applied } })
     (wrote_none (wrote (length (shown s.peer.endpoint)) s.peer.endpoint) (shown_none s.peer.endpoint))
 
-session_twice : (stage : Stage) (s : Session) → session_after stage (session_after stage s) ≡ session_after stage s
+pub session_twice : (stage : Stage) (s : Session) → session_after stage (session_after stage s) ≡ session_after stage s
 session_twice (stages.Resting until) s = refl
 session_twice (stages.Calling since) s = refl
 session_twice (stages.Shaking since shaking) s = refl
 session_twice stages.Attached s = taken_twice s
 session_twice (stages.Over end) s = refl
 
-shown_after : (stage : Stage) (d : Dialer) → shown_at stage (record d { session = session_after stage d.session }) ≡ []
+pub shown_after : (stage : Stage) (d : Dialer) → shown_at stage (record d { session = session_after stage d.session }) ≡ []
 unfolding take_out
 shown_after (stages.Resting until) d = refl
 shown_after (stages.Calling since) d = refl
@@ -115,7 +115,7 @@ handed_none d none = emptied_none d.pending d none
 both_links : (a b : List ℕ) (l : GrandLink) → writes_up b (writes_up a l) ≡ writes_up (a ++ b) l
 both_links a b l = ap (λ (x : Link). record l { link = x }) (both_up a b l.link)
 
-nothing_link : (l : GrandLink) → writes_up [] l ≡ l
+pub nothing_link : (l : GrandLink) → writes_up [] l ≡ l
 nothing_link l = ap (λ (x : Link). record l { link = x }) (nothing_up l.link)
 
 -- a client that has put a part of its bytes on its link

@@ -1,5 +1,5 @@
 -- The last of a list that becomes another.
-use Rattle.std.proofs.Common.{◌≡◌, List, [], ◌∷◌, length, map, refl, ap, ◌∙◌}
+use Rattle.std.proofs.Common.{◌≡◌, suc, List, [], ◌∷◌, length, map, refl, ap, ◌∙◌}
 use Rattle.std.specs.Prelude.{slice_set, slice_index_or}
 use Rattle.ra_grand.specs.Lasts.{with_last_of, with_last}
 
@@ -38,3 +38,11 @@ seen v f g same (x ∷ xs) = seen_of v f g same x xs
 pub at_end_of : {X : Type 0} → (f : X → X) (x d : X) (xs : List X) → slice_set (x ∷ xs) (length xs) (f (slice_index_or (x ∷ xs) (length xs) d)) ≡ with_last_of f x xs
 at_end_of f x d [] = refl
 at_end_of f x d (y ∷ ys) = ap (λ zs. x ∷ zs) (at_end_of f y d ys)
+
+length_of : {X : Type 0} → (f : X → X) (x : X) (xs : List X) → length (with_last_of f x xs) ≡ length (x ∷ xs)
+length_of f x [] = refl
+length_of f x (y ∷ ys) = ap (λ n. suc n) (length_of f y ys)
+
+pub length_last : {X : Type 0} → (f : X → X) (xs : List X) → length (with_last f xs) ≡ length xs
+length_last f [] = refl
+length_last f (x ∷ xs) = length_of f x xs

@@ -24,7 +24,7 @@ abbrev with_draw : Grounds → (ℕ → List ℕ) → Grounds
 with_draw g draw = record { settings = g.settings; signature = g.signature; counts = g.counts; draw = draw }
 
 -- they agree on so many draws
-abbrev Agree : ℕ → (ℕ → List ℕ) → (ℕ → List ℕ) → Type 0
+abbrev pub Agree : ℕ → (ℕ → List ℕ) → (ℕ → List ℕ) → Type 0
 Agree count one other = (n : ℕ) → n < count → one n ≡ other n
 
 -- what a head without a token begins, by its two draws

@@ -1,5 +1,5 @@
 -- What events of a world in memory stand for.
-use Rattle.std.proofs.Common.{◌≡◌, ℕ, suc, ◌<◌, Option, Some, None, Ok, Err, List, length, refl, ap, sym, ◌∙◌, subst, arith}
+use Rattle.std.proofs.Common.{◌≡◌, ℕ, suc, ◌<◌, Option, Some, None, Ok, Err, List, length, map, refl, ap, sym, ◌∙◌, subst, arith}
 use Rattle.std.specs.Prelude.{ℤ, slice_set, slice_get}
 use Rattle.ra_model.specs.Links.{at_number}
 use Rattle.ra_ipc.specs.View.{id_of}
@@ -15,23 +15,40 @@ use Rattle.ra_dial.specs.declared.values.DialEvent.{DialEvent}
 use Rattle.ra_dial.specs.Acts.{act_of}
 use Rattle.ra_grand.specs.declared.world.GrandWorld.{GrandWorld}
 use Rattle.ra_grand.specs.ClientStates.{ClientState}
-use Rattle.ra_grand.specs.GrandClients.{Client, dials, dialled, asked}
+use Rattle.ra_grand.specs.GrandClients.{ServerEnd, Client, ends_of, dials, dialled, asked}
 use Rattle.ra_grand.specs.GrandEffects.{acts, issued, next_id, act_at, act_of as effect_at}
 use Rattle.ra_grand.specs.GrandRefusals.{Refusal, no_such_client, of_client, unrefused, by_session, if_session}
 use Rattle.ra_grand.specs.GrandRuns.{on_dialer, on_session}
 use Rattle.ra_grand.specs.Grands.{Grand, changed}
-use Rattle.ra_grand.specs.GrandStates.{StandsForGrand, ReadAnswers, IsIndex}
+use Rattle.ra_grand.specs.GrandStates.{StandsForGrand, IsIndex}
 use Rattle.ra_grand.specs.Crowds.{ClientsStand, ClientsStay, DialsAt, AsksAt, IsNextIdAt}
+use Rattle.ra_grand.specs.Reached.{BringsNothing, ClientsHold}
+use Rattle.ra_grand.specs.ServerStates.{EndsStand}
+use Rattle.ra_grand.proofs.AnswerReading.{ReadsWhole, ReadsFront, reads_answer}
+use Rattle.ra_grand.proofs.ClientHolding.{dialled_holds, asked_holds}
+use Rattle.ra_grand.proofs.CrowdHolding.{holds_one, holds_set}
 use Rattle.ra_grand.proofs.CrowdLemmas.{count, there, missing}
+use Rattle.ra_grand.proofs.EndLemmas.{ends_dialled, ends_asked, ends_set}
 
 -- the world with these clients
 abbrev pub with_clients : GrandWorld → List ClientState → GrandWorld
 with_clients s hs = record s { clients = hs }
 
-pub stands_with : (s : GrandWorld) (hs : List ClientState) (w : Grand) (cs : List Client) → StandsForGrand s w → ClientsStand hs cs
-    → StandsForGrand (with_clients s hs) (record w { clients = cs })
-stands_with s hs w cs stands all =
-    record { now = stands.now; hub = stands.hub; draws = stands.draws; jobs = stands.jobs; clients = all; places = stands.places }
+pub stands_with : (s : GrandWorld) (hs : List ClientState) (w : Grand) (cs : List Client) → StandsForGrand s w → ClientsStand hs cs → ClientsHold cs
+    → map ends_of cs ≡ map ends_of w.clients → StandsForGrand (with_clients s hs) (record w { clients = cs })
+stands_with s hs w cs stands all hold ends = record {
+  now = stands.now;
+  server = record {
+    hub = stands.server.hub;
+    draws = stands.server.draws;
+    jobs = stands.server.jobs;
+    places = stands.server.places;
+    apart = stands.server.apart;
+    ends = subst (λ (es : List (List ServerEnd)). EndsStand s.server.links es) (sym ends) stands.server.ends;
+  };
+  clients = all;
+  holds = hold;
+}
 
 -- an event of a client's dialer
 abbrev DialsOne : GrandWorld → List ClientState → DialEvent → DialAct → Grand → ℕ → Type 0
@@ -39,25 +56,27 @@ DialsOne s new event act w client =
     (of_client client unrefused (at_number w.clients client) ≡ None) × (acts (act_of act) ≡ effect_at event client w)
     × StandsForGrand (with_clients s new) (on_dialer client event w)
 
-at_place : (s : GrandWorld) (new : List ClientState) (n : ℕ) (event : DialEvent) (act : DialAct) (w : Grand) (c : Client)
-    → slice_get w.clients n ≡ Some c → StandsForGrand s w → ReadAnswers w → DialsAt n event s.moment (act_of act) s.clients new → DialsOne s new event act w (suc n)
-at_place s new n event act w c is stands reads dials_at =
-    let made = dials_at w.clients c stands.clients is (reads (suc n) c is) in (
+at_place : ReadsWhole → ReadsFront → (s : GrandWorld) (new : List ClientState) (n : ℕ) (event : DialEvent) (act : DialAct) (w : Grand) (c : Client)
+    → BringsNothing event → slice_get w.clients n ≡ Some c → StandsForGrand s w → DialsAt n event s.moment (act_of act) s.clients new → DialsOne s new event act w (suc n)
+at_place whole front s new n event act w c nothing is stands dials_at =
+    let h = holds_one w.clients n c stands.holds is in
+    let made = dials_at w.clients c stands.clients is (reads_answer whole front c h) in (
       ap (λ (x : Option Client). of_client (suc n) unrefused x) is,
       ap (λ x. acts x) (sym made.0 ∙ ap (λ (m : ℕ). (dials event m c).0) (sym stands.now)) ∙ ap (λ (x : Option Client). acts (act_at event w.now x)) (sym is),
       subst (λ (cs : List Client). StandsForGrand (with_clients s new) (record w { clients = cs }))
           (ap (λ (m : ℕ). slice_set w.clients n (dialled event m c)) (sym stands.now) ∙ ap (λ (x : Option Client). changed (suc n) (dialled event w.now) x w.clients) (sym is))
-          (stands_with s new w (slice_set w.clients n (dialled event s.moment c)) stands made.1),
+          (stands_with s new w (slice_set w.clients n (dialled event s.moment c)) stands made.1 (holds_set w.clients n (dialled event s.moment c) stands.holds (dialled_holds event s.moment c nothing h))
+          (ends_set w.clients n c (dialled event s.moment c) is (ends_dialled event s.moment c))),
     )
 
-pub dials_one : (s : GrandWorld) (new : List ClientState) (client n : ℕ) (event : DialEvent) (act : DialAct) → client ≡ suc n → n < length s.clients
-    → DialsAt n event s.moment (act_of act) s.clients new → (w : Grand) → StandsForGrand s w → ReadAnswers w → DialsOne s new event act w client
-dials_one s new client n event act is less dials_at w stands reads =
+pub dials_one : ReadsWhole → ReadsFront → (s : GrandWorld) (new : List ClientState) (client n : ℕ) (event : DialEvent) (act : DialAct) → BringsNothing event → client ≡ suc n
+    → n < length s.clients → DialsAt n event s.moment (act_of act) s.clients new → (w : Grand) → StandsForGrand s w → DialsOne s new event act w client
+dials_one whole front s new client n event act nothing is less dials_at w stands =
     let found = there w.clients n (omega (arith, less, count s.clients w.clients stands.clients)) in
-    subst (λ (m : ℕ). DialsOne s new event act w m) (sym is) (at_place s new n event act w found.0 found.1 stands reads dials_at)
+    subst (λ (m : ℕ). DialsOne s new event act w m) (sym is) (at_place whole front s new n event act w found.0 nothing found.1 stands dials_at)
 
 pub stays_one : (s : GrandWorld) (new : List ClientState) → ClientsStay s.clients new → (w : Grand) → StandsForGrand s w → StandsForGrand (with_clients s new) w
-stays_one s new stay w stands = stands_with s new w w.clients stands (stay w.clients stands.clients)
+stays_one s new stay w stands = stands_with s new w w.clients stands (stay w.clients stands.clients) stands.holds refl
 
 pub no_client : (s : GrandWorld) (client : ℕ) → IsIndex client (length s.clients) None → (w : Grand) → StandsForGrand s w
     → of_client client unrefused (at_number w.clients client) ≡ Some (no_such_client client)
@@ -91,7 +110,8 @@ asked_at {X} s new n x call refused w c is stands asks =
       ap (λ (y : Option Client). of_client (suc n) (if_session refused) y) is ∙ ap by_session made.0,
       subst (λ (cs : List Client). StandsForGrand (with_clients s new) (record w { clients = cs }))
           (ap (λ (m : ℕ). slice_set w.clients n (asked (call m) c)) (sym stands.now) ∙ ap (λ (y : Option Client). changed (suc n) (asked (call w.now)) y w.clients) (sym is))
-          (stands_with s new w (slice_set w.clients n (asked (call s.moment) c)) stands made.1),
+          (stands_with s new w (slice_set w.clients n (asked (call s.moment) c)) stands made.1 (holds_set w.clients n (asked (call s.moment) c) stands.holds (asked_holds (call s.moment) c (holds_one w.clients n c stands.holds is)))
+          (ends_set w.clients n c (asked (call s.moment) c) is (ends_asked (call s.moment) c))),
     )
 
 pub asked_one : {X : Type 0} → (s : GrandWorld) (new : List ClientState) (client n : ℕ) (x : X) (call : ℕ → Session → Session) (refused : Session → Option SessionRefusal)
@@ -111,7 +131,7 @@ not_asked_one X s new client n fault refused call result is less asks because w 
     let made = asks w.clients found.0 stands.clients found.1 in (
       subst (λ (m : ℕ). IsCause result (of_client m (if_session refused) (at_number w.clients m))) (sym is)
           (subst (λ (y : Option Client). IsCause result (of_client (suc n) (if_session refused) y)) (sym found.1) (because (refused found.0.dialer.session) made.0)),
-      stands_with s new w w.clients stands made.1,
+      stands_with s new w w.clients stands made.1 stands.holds refl,
     )
 
 -- the id of a request

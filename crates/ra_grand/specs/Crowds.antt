@@ -1,13 +1,14 @@
 -- The clients of a world in memory, and those that they stand for.
-use Rattle.std.specs.Prelude.{◌≡◌, ℕ, ℤ, Option, Some, None, Result, Ok, Err, List, [], ◌∷◌, slice_get, slice_set}
+use Rattle.std.specs.Prelude.{◌≡◌, ℕ, ℤ, Bool, Option, Some, None, Result, Ok, Err, List, [], ◌∷◌, slice_get, slice_set}
 use Rattle.ra_ipc.specs.View.{id_of}
 use Rattle.ra_session.specs.declared.values.SessionFault.{SessionFault}
 use Rattle.ra_session.specs.SessionRefusals.{Refusal, IsRefusal}
 use Rattle.ra_session.specs.Sessions.{Session}
 use Rattle.ra_dial.specs.declared.values.DialEvent.{DialEvent}
 use Rattle.ra_dial.specs.Acts.{Act}
+use Rattle.ra_dial.specs.Calling.{is_calling}
 use Rattle.ra_grand.specs.ClientStates.{ClientState, StandsForClient, ReadsAnswer}
-use Rattle.ra_grand.specs.GrandClients.{Client, dials, dialled, asked}
+use Rattle.ra_grand.specs.GrandClients.{Client, dials, dialled, linked, asked}
 
 -- each client, in order
 abbrev pub ClientsStand : List ClientState → List Client → Type 0
@@ -34,3 +35,11 @@ AsksAt n (Err fault) old new call refusal = (cs : List Client) (c : Client) → 
 -- the id is that of its next request
 abbrev pub IsNextIdAt : ℕ → List ClientState → ℤ → Type 0
 IsNextIdAt n old id = (cs : List Client) (c : Client) → ClientsStand old cs → slice_get cs n ≡ Some c → id_of id ≡ c.dialer.session.client.next
+
+-- a link that the client at this place makes
+abbrev pub LinksAt : ℕ → ℕ → List ClientState → List ClientState → Type 0
+LinksAt n now old new = (cs : List Client) (c : Client) → ClientsStand old cs → slice_get cs n ≡ Some c → ReadsAnswer c → ClientsStand new (slice_set cs n (linked now c))
+
+-- whether the dialer of the client at this place waits for a link
+abbrev pub IsCallingAt : ℕ → List ClientState → Bool → Type 0
+IsCallingAt n hs answer = (cs : List Client) (c : Client) → ClientsStand hs cs → slice_get cs n ≡ Some c → answer ≡ is_calling c.dialer.stage

@@ -1,5 +1,5 @@
 -- A client: its dialer, and its links with the server's end of each. What it does at an event of its dialer, and at a call.
-use Rattle.std.specs.Prelude.{ℕ, ◌+◌, Bool, false, nat_lt, Option, None, List, [], ◌∷◌, ◌++◌, take}
+use Rattle.std.specs.Prelude.{ℕ, ◌+◌, Bool, false, nat_lt, Option, None, List, [], ◌∷◌, ◌++◌, map}
 use Rattle.ra_base.specs.declared.key.Key.{Key}
 use Rattle.ra_base.specs.declared.key.Seat.{Seat}
 use Rattle.ra_base.specs.declared.event.Side.TheVariants.{B}
@@ -19,18 +19,20 @@ use Rattle.ra_grand.specs.Draws.{draws_after}
 use Rattle.ra_grand.specs.Lasts.{with_last}
 use Rattle.ra_grand.specs.SetUps.{settings_for, context, request_head, answer_at}
 
--- The server's end of a link: its seat, its welcome, all that it wrote, the draws that it made, and whether it has ended.
+-- The server's end of a link: the head that it reads there, what it has read, its seat, its welcome, all that it wrote, the draws that it
+-- made, and whether it has ended.
 pub record ServerEnd : Type 0 where
+  pub head : Head Upgrade HeadFault
+  pub seen : List ℕ
   pub seat : Option Seat
   pub welcome : Option Welcome
   pub out : List ℕ
   pub drawn : List (List ℕ)
   pub is_over : Bool
 
--- A link, between the client as A and the server as B; the head that the server reads on it; and the server's end.
+-- A link, between the client as A and the server as B, and the server's end of it.
 pub record GrandLink : Type 0 where
   pub link : Link
-  pub head : Head Upgrade HeadFault
   pub server : ServerEnd
 
 -- A client: the key of its session, its dialer, how many draws it made, and its links, in the order in which they were made.
@@ -43,9 +45,9 @@ pub record Client : Type 0 where
 abbrev pub new_client : Key → ℕ → Client
 new_client key now = record { key = key; dialer = new_dialer (settings_for key) context now; drawn = 0; links = [] }
 
--- what the server has read of a link
-abbrev pub seen : GrandLink → List ℕ
-seen l = take l.link.to_b.read l.link.to_b.written
+-- the server's ends of a client's links
+abbrev pub ends_of : Client → List ServerEnd
+ends_of c = map (λ l. l.server) c.links
 
 -- ---- bytes of the client
 
@@ -70,12 +72,15 @@ unfoldable pub dialled : DialEvent → ℕ → Client → Client
 dialled event now c =
     sends (record c { dialer = (dials event now c).1; drawn = c.drawn + draws_by event now c.dialer.stage c.dialer.lost })
 
+-- the server's end of a link on which nothing came
+abbrev pub new_end : Head Upgrade HeadFault → ServerEnd
+new_end head = record { head = head; seen = []; seat = None; welcome = None; out = []; drawn = []; is_over = false }
+
 -- the link that an attempt makes: its request has the next draw as its key
 abbrev pub fresh_link : Client → GrandLink
 fresh_link c = record {
   link = new_link;
-  head = request_head c.dialer.settings (nat_lt 0 (epoch c.dialer)) (draws_after c.drawn 0);
-  server = record { seat = None; welcome = None; out = []; drawn = []; is_over = false };
+  server = new_end (request_head c.dialer.settings (nat_lt 0 (epoch c.dialer)) (draws_after c.drawn 0));
 }
 
 abbrev pub linked : ℕ → Client → Client

@@ -1,5 +1,5 @@
 -- Why an event is refused, if it is. The first cause counts.
-use Rattle.std.specs.Prelude.{ℕ, ◌+◌, Bool, true, false, if◌then◌else◌, nat_lt, Option, Some, None, option_map, List, [], ◌∷◌, length}
+use Rattle.std.specs.Prelude.{ℕ, ◌+◌, if◌then◌else◌, nat_lt, Option, Some, None, option_map, List, [], ◌∷◌, length}
 use Rattle.ra_base.specs.declared.event.Count.{Count}
 use Rattle.ra_base.specs.declared.event.Count.TheVariants.{All, Exact, Most}
 use Rattle.ra_base.specs.declared.event.Side.{Side}
@@ -13,8 +13,7 @@ use Rattle.ra_ipc.specs.View.{id_of}
 use Rattle.ra_hub.specs.Jobs.{SeenJob}
 use Rattle.ra_session.specs.Sessions.{Session}
 use Rattle.ra_session.specs.SessionRefusals as session_refusals
-use Rattle.ra_dial.specs.declared.stage.Stage.{Stage}
-use Rattle.ra_dial.specs.declared.stage.Stage.TheVariants as stages
+use Rattle.ra_dial.specs.Calling.{is_calling}
 use Rattle.ra_script.specs.declared.grand_line.GrandEvent.{GrandEvent}
 use Rattle.ra_script.specs.declared.grand_line.GrandEvent.TheVariants as events
 use Rattle.ra_grand.specs.GrandClients.{GrandLink, Client}
@@ -63,13 +62,6 @@ holder n key (c ∷ cs) = if same_key key c.key then Some n else holder (n + 1) 
 
 abbrev pub if_taken : Key → List Client → Option Refusal
 if_taken key clients = option_map (λ n. token_taken n) (holder 1 key clients)
-
-abbrev pub is_calling : Stage → Bool
-is_calling (stages.Resting until) = false
-is_calling (stages.Calling since) = true
-is_calling (stages.Shaking since s) = false
-is_calling stages.Attached = false
-is_calling (stages.Over end) = false
 
 abbrev pub if_not_dialling : ℕ → Client → Option Refusal
 if_not_dialling n c = if is_calling c.dialer.stage then None else Some (not_dialling n)

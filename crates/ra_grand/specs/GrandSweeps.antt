@@ -1,7 +1,7 @@
 -- A sweep: the sessions whose grace is over expire, and the others see the moment.
-use Rattle.std.specs.Prelude.{ℕ, if◌then◌else◌, List, [], ◌∷◌, map, filter, option_map}
+use Rattle.std.specs.Prelude.{ℕ, List, [], ◌∷◌, map, filter, option_map}
 use Rattle.std.specs.List.{list_any}
-use Rattle.std.specs.Ordering.{is_lt}
+use Rattle.std.specs.BTreeSet.{insert_key}
 use Rattle.ra_base.specs.Keys.{key_cmp}
 use Rattle.ra_base.specs.declared.key.Key.{Key}
 use Rattle.ra_registry.specs.Expiry.{expiry_of}
@@ -12,18 +12,14 @@ use Rattle.ra_hub.specs.Sweeps.{swept, grace_is_over}
 use Rattle.ra_grand.specs.Grands.{Grand}
 use Rattle.ra_grand.specs.Marks.{Mark, whole, short, unticked}
 
--- keys in their order
-abbrev pub with_key : Key → List Key → List Key
-with_key key [] = key ∷ []
-with_key key (k ∷ ks) = if is_lt (key_cmp key k) then key ∷ k ∷ ks else k ∷ with_key key ks
-
+-- keys in their order, each once
 abbrev pub in_order : List Key → List Key
 in_order [] = []
-in_order (k ∷ ks) = with_key k (in_order ks)
+in_order (k ∷ ks) = insert_key key_cmp (in_order ks) k
 
--- the keys whose rows expire
+-- the keys whose rows expire, of all that the history names
 unfoldable pub expired_keys : Grand → List Key
-expired_keys w = in_order (filter (grace_is_over w.hub w.now) (map (λ c. c.key) w.clients))
+expired_keys w = in_order (filter (grace_is_over w.hub w.now) (map (λ e. e.key) w.hub.registry.history))
 
 -- each session, but for these, becomes what its row, its own state and the moment say
 abbrev pub swept_hub : ℕ → List Key → List Key → Hub → Hub

@@ -9,8 +9,12 @@ use Rattle.ra_grand.specs.declared.effect.GrandEffect.{GrandEffect}
 use Rattle.ra_grand.specs.declared.effect.GrandEffect.TheVariants as seen
 use Rattle.ra_grand.specs.declared.fault.GrandFault.{GrandFault}
 use Rattle.ra_grand.specs.declared.fault.GrandFault.TheVariants as faults
-use Rattle.ra_grand.specs.GrandEffects.{Effect, done, made, acts, moved, broke, swept, issued, outcome}
-use Rattle.ra_grand.specs.GrandRefusals.{Refusal, no_such_link, no_such_client, no_such_job, token_taken, not_dialling, link_over, too_many, of_session}
+use Rattle.ra_grand.specs.GrandEffects.{Effect, done, made, acts, moved, broke, swept, issued, outcome, effect}
+use Rattle.ra_grand.specs.GrandRefusals.{Refusal, no_such_link, no_such_client, no_such_job, token_taken, not_dialling, link_over, too_many, of_session, refusal}
+use Rattle.ra_grand.specs.GrandRuns.{happens}
+use Rattle.ra_grand.specs.Grands.{Grand}
+use Rattle.ra_grand.specs.Marks.{Mark}
+use Rattle.ra_script.specs.declared.grand_line.GrandEvent.{GrandEvent}
 
 -- memory ran out, or a record was not kept, where the link was cut short
 abbrev pub moved_to : List ℕ → Outcome → Effect
@@ -39,6 +43,16 @@ IsCause (faults.Over link) cause = cause ≡ Some (link_over link)
 IsCause (faults.TooMany asked there) cause = cause ≡ Some (too_many asked there)
 IsCause (faults.Session fault) cause = (r : SessionRefusal) × IsRefusal fault (Some r) × (cause ≡ Some (of_session r))
 IsCause faults.NoMemory cause = Unit {0}
+
+-- it was applied, or refused, and then all is as it was
+abbrev pub Applies : Result GrandEffect GrandFault → GrandEvent → Grand → (Grand → Type 0) → Type 0
+Applies (Ok answer) event w After = (mark : Mark) × (refusal event w ≡ None) × (effect_of answer ≡ effect mark event w) × After (happens mark event w)
+Applies (Err fault) event w After = IsCause fault (refusal event w) × After w
+
+-- it goes on exactly where there is no cause, unless memory ran out
+abbrev pub Causes : {X : Type 0} → Result X GrandFault → Option Refusal → Type 0
+Causes (Ok x) cause = cause ≡ None
+Causes (Err fault) cause = IsCause fault cause
 
 -- no cause refused the event, it answers this, and this holds then; or the cause refused it, and all is as it was
 abbrev pub Answers : Result GrandEffect GrandFault → Option Refusal → Effect → (Changed Same : Type 0) → Type 0

@@ -1,8 +1,10 @@
+pub mod ClientLinks
 pub mod ClientStates
 pub mod Crowds
 pub mod Draws
 pub mod GrandClients
 pub mod GrandEffects
+pub mod GrandEvents
 pub mod GrandRefusals
 pub mod GrandRuns
 pub mod Grands
@@ -10,7 +12,14 @@ pub mod GrandSweeps
 pub mod GrandStates
 pub mod GrandViews
 pub mod Lasts
+pub mod Pieces
+pub mod Reached
 pub mod Marks
 pub mod ServedLinks
+pub mod ServerCalls
+pub mod ServerStates
+pub mod Servings
 pub mod SetUps
+pub mod Tellings
+pub mod Spots
 pub mod Works

@@ -1,17 +1,13 @@
 -- The server's end of a link, when a piece comes to it or it is left: it is a served link, and what it writes is put on the link at once.
-use Rattle.std.specs.Prelude.{ℕ, ◌+◌, ◌-◌, ◌==◌, Bool, true, if◌then◌else◌, Option, Some, None, List, [], ◌∷◌, ◌++◌, length, take, drop}
+use Rattle.std.specs.Prelude.{ℕ, ◌+◌, ◌-◌, ◌==◌, Bool, true, if◌then◌else◌, None, List, [], ◌++◌, length, take, drop}
 use Rattle.std.specs.Option.{is_some}
 use Rattle.ra_base.specs.declared.event.Side.TheVariants.{A, B}
-use Rattle.ra_base.specs.declared.handshake.Reason.{Reason}
-use Rattle.ra_base.specs.declared.key.Seat.{Seat}
 use Rattle.ra_model.specs.Links.{read_on, written_to}
-use Rattle.ra_registry.specs.Admission.{admission_refusal, seat_for}
-use Rattle.ra_hub.specs.Hubs.{Hub}
-use Rattle.ra_link.specs.HubEvents.{HubEvent, Admit, Attach, Turn, Lose, Close, event_done, events_done, events_jobs}
+use Rattle.ra_link.specs.HubEvents.{HubEvent, events_done, events_jobs, seats_by}
 use Rattle.ra_link.specs.LinkRuns.{Serving, piece_done, hub_left}
 use Rattle.ra_grand.specs.Draws.{draws_after, own_then, first_draws}
 use Rattle.ra_grand.specs.SetUps.{grounds}
-use Rattle.ra_grand.specs.GrandClients.{ServerEnd, GrandLink, seen}
+use Rattle.ra_grand.specs.GrandClients.{ServerEnd, GrandLink}
 use Rattle.ra_grand.specs.Grands.{Grand, Found, put_link}
 use Rattle.ra_grand.specs.Marks.{Mark, whole, short, unticked}
 
@@ -34,30 +30,14 @@ serving_at l w = record {
 
 -- what it becomes by a piece
 unfoldable pub served : List ℕ → GrandLink → Grand → Serving
-served bytes l w = piece_done (grounds (draw_at l w)) l.head (seen l) (record { bytes = bytes; now = w.now }) (serving_at l w)
+served bytes l w = piece_done (grounds (draw_at l w)) l.server.head l.server.seen (record { bytes = bytes; now = w.now }) (serving_at l w)
 
 -- ---- where memory ran out
-
--- the seat after an event of the hub
-abbrev pub seat_if : Option Reason → Seat → Option Seat → Option Seat
-seat_if None given seat = Some given
-seat_if (Some reason) given seat = seat
-
-abbrev pub seat_by : HubEvent → Hub → Option Seat → Option Seat
-seat_by (Admit request now) h seat = seat_if (admission_refusal h.registry request now) (seat_for h.registry request) seat
-seat_by (Attach own chunk now) h seat = seat
-seat_by (Turn own piece now) h seat = seat
-seat_by (Lose own now) h seat = None
-seat_by (Close own cause now) h seat = None
-
-abbrev pub seat_after : List HubEvent → Hub → Option Seat → Option Seat
-seat_after [] h seat = seat
-seat_after (e ∷ es) h seat = seat_after es (event_done e h) (seat_by e h seat)
 
 -- The link comes so far from the one to the other: so many draws, these events, and so many bytes. A welcome comes with the first event.
 abbrev pub came : ℕ → List HubEvent → ℕ → Serving → Serving → Serving
 came draws events bytes s u = record s {
-  seat = seat_after events s.hub s.seat;
+  seat = seats_by events s.hub s.seat;
   welcome = if length events == 0 then s.welcome else u.welcome;
   out = s.out ++ take bytes (drop (length s.out) u.out);
   drawn = s.drawn + draws;
@@ -89,25 +69,33 @@ left now s = record s { seat = None; hub = hub_left s.seat now s.hub }
 abbrev pub settled : ℕ → Came → Serving
 settled now c = if c.is_over then left now c.link else c.link
 
-abbrev pub server_of : (ℕ → List ℕ) → Bool → Serving → ServerEnd
-server_of draw is_over s = record { seat = s.seat; welcome = s.welcome; out = s.out; drawn = first_draws s.drawn draw; is_over = is_over }
+-- the server's end after these bytes more
+abbrev pub end_after : List ℕ → (ℕ → List ℕ) → Bool → Serving → ServerEnd → ServerEnd
+end_after bytes draw is_over s old = record {
+  head = old.head;
+  seen = old.seen ++ bytes;
+  seat = s.seat;
+  welcome = s.welcome;
+  out = s.out;
+  drawn = first_draws s.drawn draw;
+  is_over = is_over;
+}
 
--- all of it after n bytes were read: the link, the hub, the jobs and the draws
-abbrev pub put_served : ℕ → Bool → Serving → Found → Grand → Grand
-put_served n is_over s f w =
+-- all of it after these bytes were read: the link, the hub, the jobs and the draws
+abbrev pub put_served : List ℕ → Bool → Serving → Found → Grand → Grand
+put_served bytes is_over s f w =
     put_link f
     (record {
-      link = written_to A (drop (length f.link.server.out) s.out) (read_on B n f.link.link);
-      head = f.link.head;
-      server = server_of (draw_at f.link w) is_over s;
+      link = written_to A (drop (length f.link.server.out) s.out) (read_on B (length bytes) f.link.link);
+      server = end_after bytes (draw_at f.link w) is_over s f.link.server;
     })
     (record w { hub = s.hub; jobs = s.jobs; drawn = w.drawn + (s.drawn - length f.link.server.drawn) })
 
 -- a piece comes
 unfoldable pub piece_came : Mark → List ℕ → Found → Grand → Grand
 piece_came mark bytes f w =
-    let c = came_by mark (serving_at f.link w) (served bytes f.link w) in put_served (length bytes) c.is_over (settled w.now c) f w
+    let c = came_by mark (serving_at f.link w) (served bytes f.link w) in put_served bytes c.is_over (settled w.now c) f w
 
 -- the server's end is left
 unfoldable pub server_left : Found → Grand → Grand
-server_left f w = put_served 0 true (left w.now (serving_at f.link w)) f w
+server_left f w = put_served [] true (left w.now (serving_at f.link w)) f w

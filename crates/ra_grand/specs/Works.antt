@@ -10,7 +10,8 @@ use Rattle.ra_session.specs.Hearing.{Happening, work, host, call_settled, event_
 use Rattle.ra_session.specs.SessionCalls.{Firing, answer, say_body}
 use Rattle.ra_session.specs.SessionRefusals.{Refusal, ended, stale, no_link, too_long, bad_ipc, too_large, ids_spent, no_such_call, wrong_kind, answer_refusal, say_refusal}
 use Rattle.ra_session.specs.Sessions.{Session}
-use Rattle.ra_hub.specs.Hubs.{at_key}
+use Rattle.ra_registry.specs.declared.row.Row.{Row}
+use Rattle.ra_hub.specs.Hubs.{at_key, row, missed}
 use Rattle.ra_hub.specs.Jobs.{SeenJob}
 use Rattle.ra_grand.specs.Grands.{Grand}
 
@@ -64,6 +65,11 @@ sayable t s = unless_large (telling_refusal t s) t
 
 -- ---- one job
 
+-- the session that is told, where the key has a row
+abbrev pub session_by : Option Row → Option Session → Option Session
+session_by None session = None
+session_by (Some row) session = session
+
 -- the telling of a job, and the session that is told
 pub record Told : Type 0 where
   pub telling : Telling
@@ -75,7 +81,7 @@ told_to (Some t) None = None
 told_to (Some t) (Some s) = Some (record { telling = sayable t s; session = s })
 
 abbrev pub told_by : SeenJob → Grand → Option Told
-told_by job w = told_to (telling job.work) (w.hub.session job.key)
+told_by job w = told_to (telling job.work) (session_by (row w.hub job.key) (w.hub.session job.key))
 
 -- nobody is told of a job whose session has ended
 abbrev pub if_told : Option Refusal → Option Refusal
@@ -99,8 +105,13 @@ abbrev pub unless_ended : Option Refusal → Key → Telling → Session → Gra
 unless_ended None key t s w = record w { hub = at_key key (told t w.now s) w.hub }
 unless_ended (Some refusal) key t s w = w
 
+-- a key that has no row is entered
+abbrev pub misses : Option Row → Key → Grand → Grand
+misses None key w = record w { hub = missed key w.now w.hub }
+misses (Some row) key w = w
+
 abbrev pub tells : Key → Option Told → Grand → Grand
-tells key None w = w
+tells key None w = misses (row w.hub key) key w
 tells key (Some t) w = unless_ended (telling_refusal t.telling t.session) key t.telling t.session w
 
 -- the n-th job is done, and waits no more

@@ -1,5 +1,5 @@
 //! A client: its dialer and its links. Its bytes are put on its last link.
-ghost use Rattle.std.specs.Prelude.{◌≡◌, [], true, OnOk, OnErr, IfOk};
+ghost use Rattle.std.specs.Prelude.{◌≡◌, [], length, true, OnOk, OnErr, IfOk};
 ghost use Rattle.ra_grand.specs.ClientStates.{StaysClient, IsFlushed, put_on_last};
 
 use crate::counted::Counted;
@@ -61,6 +61,7 @@ impl Client {
         ensures stays { StaysClient self.old self.new }
         ensures done { IfOk result (λ none. none ≡ true → IsFlushed self.old self.new) }
         ensures empty { IfOk result (λ none. none ≡ true → self.new.held ≡ []) }
+        ensures count { length self.new.links ≡ length self.old.links }
     {
         self.put_held()?;
         self.held = self.dialer.take_out();
@@ -72,6 +73,7 @@ impl Client {
         ensures stays { StaysClient self.old self.new }
         ensures done { OnOk result (IsFlushed self.old self.new) }
         ensures empty { OnOk result (self.new.held ≡ []) }
+        ensures count { length self.new.links ≡ length self.old.links }
     {
         for _turn in 0..u64::MAX {
             if self.hand_over()? {

@@ -1,5 +1,5 @@
 //! The clients of a world.
-ghost use Rattle.std.specs.Prelude.{◌≡◌, ◌<◌, [], length, IfOk, OnErr};
+ghost use Rattle.std.specs.Prelude.{◌≡◌, ◌≢◌, ◌<◌, ◌+◌, ◌++◌, ◌∷◌, [], List, length, IfOk, OnOk, OnErr};
 ghost use Rattle.ra_dial.specs.Acts.{act_of};
 ghost use Rattle.ra_values.specs.View.{tree};
 ghost use Rattle.ra_ipc.specs.ChannelPairs.{cancelled};
@@ -8,10 +8,13 @@ ghost use Rattle.ra_chan_client.specs.View.{RequestFits};
 ghost use Rattle.ra_session.specs.SessionCalls as calls;
 ghost use Rattle.ra_session.specs.SessionRefusals as refusals;
 ghost use Rattle.ra_session.specs.View.{outcome_of};
-ghost use Rattle.ra_grand.specs.Crowds.{ClientsStay, DialsAt, AsksAt, IsNextIdAt};
+ghost use Rattle.ra_base.specs.declared.kind.Kind.TheVariants as kinds;
+ghost use Rattle.ra_grand.specs.GrandClients as grand;
+ghost use Rattle.ra_grand.specs.GrandRefusals.{holder};
+ghost use Rattle.ra_grand.specs.Crowds.{ClientsStand, ClientsStay, IsCallingAt, LinksAt, DialsAt, AsksAt, IsNextIdAt};
 
 use crate::client::Client;
-use ra_base::{Message, Moment, NoMemory};
+use ra_base::{Key, Message, Moment, NoMemory};
 use ra_dial::{DialAct, DialEvent};
 use ra_session::{Outcome, SessionFault};
 use ra_values::{Text, Value};
@@ -21,7 +24,7 @@ use std::marker::Model;
 /// The clients of a world, in the order in which they were made. A contract sees what each keeps in memory.
 #[derive(Drop)]
 pub(crate) struct Clients {
-    list: Vec<Client>,
+    pub(crate) list: Vec<Client>,
 }
 
 impl Model for Clients {
@@ -53,6 +56,30 @@ impl Clients {
         self.list.len()
     }
 
+    /// The number of the first client with this key.
+    pub(crate) fn holder(&self, key: &Key) -> Option<u64>
+        ensures { (cs : List grand.Client) → ClientsStand self.now cs → result ≡ holder 1 key.now cs }
+    {
+        for n in 0..self.len() {
+            if self.list[n].has(key) {
+                return Some(n as u64 + 1);
+            }
+        }
+        None
+    }
+
+    /// One more client, for the session of this key. Its number is answered.
+    pub(crate) fn add(&mut self, alloc: Global, key: Key, now: Moment) -> Result<u64, NoMemory>
+        requires { key.kind ≢ kinds.Tunnel }
+        ensures number { IfOk result (λ number. number ≡ length self.old + 1) }
+        ensures made { OnOk result ((cs : List grand.Client) → ClientsStand self.old cs → ClientsStand self.new (cs ++ grand.new_client key now ∷ [])) }
+        ensures same { OnErr result (self.new ≡ self.old) }
+    {
+        let client = Client::new(alloc, key, now)?;
+        self.list.push(client)?;
+        Ok(self.list.len() as u64)
+    }
+
     /// The dialer of the client at this place takes an event.
     pub(crate) fn dial(
         &mut self,
@@ -65,6 +92,23 @@ impl Clients {
         ensures stays { OnErr result (ClientsStay self.old self.new) }
     {
         self.list[n].dial(event, now)
+    }
+
+    /// Whether the dialer of the client at this place waits for a link.
+    pub(crate) fn is_calling(&self, n: usize) -> bool
+        requires { n < length self.now }
+        ensures { IsCallingAt n self.now result }
+    {
+        self.list[n].is_calling()
+    }
+
+    /// The client at this place makes a link.
+    pub(crate) fn link(&mut self, n: usize, now: Moment) -> Result<(), NoMemory>
+        requires { n < length self.old }
+        ensures linked { OnOk result (LinksAt n now self.old self.new) }
+        ensures stays { OnErr result (ClientsStay self.old self.new) }
+    {
+        self.list[n].link(now)
     }
 
     /// A call of the client at this place.

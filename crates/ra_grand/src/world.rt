@@ -11,39 +11,29 @@ ghost use Rattle.ra_grand.specs.Grands as grand;
 ghost use Rattle.ra_grand.specs.GrandEffects as effects;
 ghost use Rattle.ra_grand.specs.GrandRefusals as refusals;
 ghost use Rattle.ra_grand.specs.GrandRuns.{on_dialer, on_session};
-ghost use Rattle.ra_grand.specs.GrandStates.{StandsForGrand, ReadAnswers, IsIndex};
+ghost use Rattle.ra_grand.specs.GrandStates.{StandsForGrand, IsIndex};
 ghost use Rattle.ra_grand.specs.GrandViews.{Answers, IsCause, effect_of};
+ghost use Rattle.ra_grand.specs.Reached.{BringsNothing};
 ghost use Rattle.ra_model.specs.Links.{at_number};
 
 use crate::clients::Clients;
-use crate::counted::Counted;
 use crate::effect::GrandEffect;
 use crate::fault::GrandFault;
-use crate::place::Spot;
+use crate::server::Server;
 use ra_base::{Message, Moment};
 use ra_dial::DialEvent;
-use ra_hub::{JobList, PlainHub};
-use ra_keep::MemKeeper;
 use ra_session::SessionFault;
+use ra_upgrade::laws::answer_is_read;
 use ra_values::{Text, Value};
 use std::alloc::Global;
-
-/// How long a lost session may be reconnected, in milliseconds.
-const LONG_GRACE: u64 = 10_800_000;
-
-/// How long it may be once another request has come, in milliseconds.
-const SHORT_GRACE: u64 = 300_000;
 
 /// A hub and its clients, numbered from 1, and the links between them, numbered from 1.
 #[derive(Drop)]
 pub struct GrandWorld {
     pub(crate) alloc: Global,
     pub(crate) moment: Moment,
-    pub(crate) hub: PlainHub<MemKeeper>,
-    pub(crate) entropy: Counted,
-    pub(crate) jobs: JobList,
+    pub(crate) server: Server,
     pub(crate) clients: Clients,
-    pub(crate) places: Vec<Spot>,
 }
 
 /// The later of two moments.
@@ -68,7 +58,7 @@ pub(crate) fn index_of(number: u64, count: usize) -> Option<usize>
 }
 
 /// The fault of an event whose session refuses.
-fn session_fault(fault: SessionFault) -> GrandFault
+pub(crate) fn session_fault(fault: SessionFault) -> GrandFault
     ensures { (cause : Option sessions.Refusal) → sessions.IsRefusal fault cause → IsCause result (refusals.by_session cause) }
 {
     if let SessionFault::NoMemory = fault {
@@ -85,11 +75,8 @@ impl GrandWorld {
         GrandWorld {
             alloc,
             moment: Moment::start(),
-            hub: PlainHub::new(alloc, LONG_GRACE, SHORT_GRACE),
-            entropy: Counted::new(),
-            jobs: JobList::new(alloc),
+            server: Server::new(alloc),
             clients: Clients::new(alloc),
-            places: Vec::new(alloc),
         }
     }
 
@@ -104,22 +91,24 @@ impl GrandWorld {
     pub fn links(&self) -> u64
         ensures { (w : grand.Grand) → StandsForGrand self.now w → result ≡ length w.places }
     {
-        self.places.len() as u64
+        self.server.link_count() as u64
     }
 
     /// How many jobs wait.
     pub fn jobs(&self) -> u64
         ensures { (w : grand.Grand) → StandsForGrand self.now w → result ≡ length w.jobs }
     {
-        self.jobs.jobs().len() as u64
+        self.server.job_count() as u64
     }
 
-    /// The dialer of a client takes an event.
+    /// The dialer of a client takes an event that brings no link and no bytes.
     pub(crate) fn dial(&mut self, client: u64, event: DialEvent) -> Result<GrandEffect, GrandFault>
-        ensures { (w : grand.Grand) → StandsForGrand self.old w → ReadAnswers w
+        requires { BringsNothing event }
+        ensures { (w : grand.Grand) → StandsForGrand self.old w
             → Answers result (refusals.of_client client refusals.unrefused (at_number w.clients client)) (effects.act_of event client w)
             (StandsForGrand self.new (on_dialer client event w)) (StandsForGrand self.new w) }
     {
+        answer_is_read();
         match index_of(client, self.clients.len()) {
             None => Err(GrandFault::NoSuchClient { client }),
             Some(n) => match self.clients.dial(n, event, self.moment) {
