@@ -1,3 +1,6 @@
+mod GrandReports
+mod GrandRunning
+mod GrandTexts
 pub mod Listening
 pub mod Outlooks
 pub mod Drains
@@ -11,3 +14,5 @@ pub mod DrainLemmas
 pub mod ScriptLemmas
 pub mod ReplayLemmas
 pub mod SoakLemmas
+mod WholeEvents
+mod WholeScripts

@@ -8,9 +8,10 @@ use Rattle.ra_ports.specs.Texts.{Told, WroteAll, WroteFront}
 use Rattle.agent.specs.declared.report.Ending.{Ending}
 use Rattle.agent.specs.declared.report.Ending.TheVariants.{Done, Refused}
 use Rattle.agent.specs.declared.report.Fault.{Fault}
-use Rattle.agent.specs.declared.command.Command.TheVariants.{Receive, Replay, Soak}
+use Rattle.agent.specs.declared.command.Command.TheVariants.{Receive, Replay, Grand, Soak}
 use Rattle.agent.specs.Receive.{receive_report}
 use Rattle.agent.specs.Progress.{IsReported}
+use Rattle.agent.specs.Grand.{grand_report}
 use Rattle.agent.specs.Replay.{replay_report}
 use Rattle.agent.specs.Soak.{soak_text}
 use Rattle.agent.specs.Programs.{report_of, status_of, IsPrinted}
@@ -31,6 +32,9 @@ printed_receive input before end left taken r = record { text = r.text; ending =
 pub printed_replay : (input before : List ℕ) (end : Ending) (left taken : Option (List ℕ)) → IsReported replay_report input before end left taken → IsPrinted Replay input before end left taken
 printed_replay input before end left taken r = record { text = r.text; ending = r.ending; read = r.read }
 
+pub printed_grand : (input before : List ℕ) (end : Ending) (left taken : Option (List ℕ)) → IsReported grand_report input before end left taken → IsPrinted Grand input before end left taken
+printed_grand input before end left taken r = record { text = r.text; ending = r.ending; read = r.read }
+
 pub printed_soak : (start steps : ℕ) (input before : List ℕ) (end : Ending) (left to to' : Option (List ℕ)) → left ≡ Some input → to ≡ Some before → end ≡ Done → Appends to to' (soak_text start steps)
     → IsPrinted (Soak start steps) input before end left to'
 printed_soak start steps input before end left to to' here is done wrote = record { text = all_of_text (soak_text start steps) before to to' is wrote; ending = done; read = λ e. here }
@@ -50,6 +54,11 @@ pub replay_done : (r : Result Ending Fault) (left left' to to' : Option (List �
     → IfOk r (λ end. Told left to (λ input before. IsPrinted Replay input before end left' to'))
 replay_done (Ok end) left left' to to' h = λ input before here is. printed_replay input before end left' to' (h input before here is)
 replay_done (Err fault) left left' to to' h = tt
+
+pub grand_done : (r : Result Ending Fault) (left left' to to' : Option (List ℕ)) → IfOk r (λ end. Told left to (λ input before. IsReported grand_report input before end left' to'))
+    → IfOk r (λ end. Told left to (λ input before. IsPrinted Grand input before end left' to'))
+grand_done (Ok end) left left' to to' h = λ input before here is. printed_grand input before end left' to' (h input before here is)
+grand_done (Err fault) left left' to to' h = tt
 
 pub soak_front : (r : Result Ending Fault) (start steps : ℕ) (left to to' : Option (List ℕ)) → OnErr r (AppendsFront to to' (soak_text start steps))
     → OnErr r (Told left to (λ input before. WroteFront before (report_of (Soak start steps) input).text to'))

@@ -7,10 +7,11 @@ use Rattle.ra_ports.specs.Texts.{WroteAll}
 use Rattle.agent.specs.declared.report.Ending.{Ending}
 use Rattle.agent.specs.declared.report.Ending.TheVariants.{Done, Refused}
 use Rattle.agent.specs.declared.command.Command.{Command}
-use Rattle.agent.specs.declared.command.Command.TheVariants.{Receive, Replay, Soak}
+use Rattle.agent.specs.declared.command.Command.TheVariants.{Receive, Replay, Grand, Soak}
 use Rattle.agent.specs.Lines.{usage_line}
 use Rattle.agent.specs.Receive.{Report, receive_report}
 use Rattle.agent.specs.Progress.{WroteLines}
+use Rattle.agent.specs.Grand.{grand_report}
 use Rattle.agent.specs.Replay.{replay_report}
 use Rattle.agent.specs.Soak.{soak_text}
 
@@ -20,6 +21,7 @@ abbrev pub one_word : List ℕ → Option Command
 one_word word =
     if pointwise nat_eq word (codes "receive") then Some Receive
     else if pointwise nat_eq word (codes "replay") then Some Replay
+    else if pointwise nat_eq word (codes "grand") then Some Grand
     else None
 
 -- two decimals, of which the second is at most 100,000
@@ -48,6 +50,7 @@ IsCommand _ = Unit {0}
 abbrev pub report_of : Command → List ℕ → Report
 report_of Receive input = receive_report input
 report_of Replay input = replay_report input
+report_of Grand input = grand_report input
 report_of (Soak start steps) input = record { text = soak_text start steps; ending = Done }
 
 -- the status of a run
@@ -76,10 +79,11 @@ status words input = status_for (command_of words) input
 abbrev pub IsRead : Option Command → List ℕ → Option (List ℕ) → Type 0
 IsRead (Some Receive) input left = left ≡ Some []
 IsRead (Some Replay) input left = left ≡ Some []
+IsRead (Some Grand) input left = left ≡ Some []
 IsRead (Some (Soak start steps)) input left = left ≡ Some input
 IsRead None input left = left ≡ Some input
 
--- where a read failed, `receive` has written what it prints for the bytes that were read, but for the last line, and `replay` nothing
+-- where a read failed, `receive` has written what it prints for the bytes that were read, but for the last line, and `replay` and `grand` nothing
 abbrev pub WroteBefore : Option Command → List ℕ → List ℕ → Option (List ℕ) → Option (List ℕ) → Type 0
 WroteBefore (Some Receive) input before left taken = WroteLines receive_report input before left taken
 WroteBefore _ input before left taken = taken ≡ Some before

@@ -12,6 +12,8 @@ pub enum Command {
     Receive,
     /// Runs a script, and prints what its lines do.
     Replay,
+    /// Runs a grand script, and prints what its lines do.
+    Grand,
     /// Runs the script that is drawn from a number, and prints the sums. It has at most 100,000 steps.
     Soak { start: u64, steps: u32 },
 }
@@ -23,6 +25,7 @@ fn one_word(word: &str) -> Option<Command>
     match word {
         "receive" => Some(Command::Receive),
         "replay" => Some(Command::Replay),
+        "grand" => Some(Command::Grand),
         _ => None,
     }
 }

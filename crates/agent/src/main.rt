@@ -4,6 +4,10 @@
 #![tactic(auto)]
 
 mod command;
+mod grand;
+mod grand_lines;
+#[cfg(test)]
+mod grand_tests;
 mod lines;
 mod plain;
 mod read_whole;

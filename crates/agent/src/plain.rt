@@ -5,6 +5,7 @@ ghost use Rattle.ra_ports.specs.Texts.{Told, WroteAll, WroteFront};
 ghost use Rattle.agent.specs.Programs.{command_of, status_of, report_of, output, status, IsCommand, IsPrinted, IsRead, WroteBefore, IsStatus, IsWritten, IsBrokenOff};
 
 use crate::command::{Command, command_of};
+use crate::grand::grand;
 use crate::lines::USAGE;
 use crate::receive::receive;
 use crate::replay::replay;
@@ -41,6 +42,7 @@ fn run<S: Source, K: Sink>(
     match command {
         Command::Receive => receive(alloc, source, sink),
         Command::Replay => replay(alloc, source, sink),
+        Command::Grand => grand(alloc, source, sink),
         Command::Soak { start, steps } => soak(alloc, start, steps, sink),
     }
 }
