@@ -32,3 +32,6 @@ pub use applying::run_grand;
 pub use effect::GrandEffect;
 pub use fault::{GrandFault, GrandRunFault};
 pub use world::GrandWorld;
+
+#[cfg(test)]
+mod tests;
