@@ -8,14 +8,18 @@ mod CrowdHolding
 mod CrowdLemmas
 mod DialSteps
 mod DialerHolding
+mod EndLaws
 mod EndLemmas
 mod Expiring
 mod EndSteps
+mod EventLaws
 mod ExchangeLemmas
 mod Flushing
 mod FreeLinks
 mod GoneSteps
 mod JoiningSteps
+mod KeptClients
+mod KeptHistories
 mod LastLemmas
 mod OrderedKeys
 mod LinkChanging
@@ -32,6 +36,7 @@ mod PlaceLemmas
 mod ReceiveSteps
 mod Regrounding
 mod Rows
+mod RunLaws
 mod RunSteps
 mod JobSteps
 mod SweepSteps

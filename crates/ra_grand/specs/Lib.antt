@@ -11,7 +11,9 @@ pub mod Grands
 pub mod GrandSweeps
 pub mod GrandStates
 pub mod GrandViews
+pub mod Lasting
 pub mod Lasts
+pub mod Owners
 pub mod Pieces
 pub mod Reached
 pub mod Marks

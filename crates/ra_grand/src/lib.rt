@@ -15,6 +15,7 @@ mod dialling;
 pub mod effect;
 mod exchanging;
 pub mod fault;
+pub mod laws;
 mod link;
 mod linking;
 mod moving;
