@@ -1,0 +1,9 @@
+pub mod EndpointMoves
+pub mod LaterLinks
+pub mod SessionMoves
+pub mod LinkTurns
+pub mod TurnsWithin
+pub mod OtherLinks
+pub mod SessionsRise
+pub mod SessionLinks
+pub mod SessionNumbers

@@ -1,0 +1,2 @@
+pub mod SessionViews
+pub mod SessionLinks
