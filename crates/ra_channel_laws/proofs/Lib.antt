@@ -1,0 +1,16 @@
+pub mod Lists
+pub mod Said
+pub mod Sides
+pub mod Sizes
+pub mod Holding
+pub mod Silence
+pub mod Links
+pub mod Asking
+pub mod LateAnswers
+pub mod Coming
+pub mod PairSteps
+pub mod Frames
+pub mod ClientHearing
+pub mod ServerHearing
+pub mod Answering
+pub mod Beginning
