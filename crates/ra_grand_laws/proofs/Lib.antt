@@ -1,0 +1,49 @@
+pub mod Lists
+pub mod KeptRows
+pub mod WorldSteps
+pub mod SessionSteps
+pub mod SessionCallsKept
+pub mod HubSteps
+pub mod LinksStay
+pub mod WholeTexts
+pub mod ServedFocus
+pub mod ServedTexts
+pub mod ClientGrounds
+pub mod LiftedMoves
+pub mod ClientLinks
+pub mod WorldClients
+pub mod WorldLinks
+pub mod FrameTexts
+pub mod ServerTexts
+pub mod OpenedFronts
+mod FrameFronts
+mod HandshakeTexts
+mod HandshakeSteps
+mod Handshaking
+pub mod ServedMoves
+pub mod ServedTurns
+pub mod HubMoves
+pub mod ServedRuns
+pub mod SeatTurns
+pub mod ServedAdmissions
+pub mod ServedOpenings
+pub mod ServedParts
+pub mod ClientSends
+pub mod ClientTexts
+pub mod ClientShakes
+pub mod ClientAttaching
+pub mod ClientLooks
+pub mod BadTurns
+pub mod ClientAttached
+pub mod ClientParts
+pub mod ClientCuts
+pub mod ClientPieces
+pub mod FreshLinks
+pub mod ClientLinked
+pub mod RisingHubs
+pub mod RisingClients
+pub mod Rising
+pub mod EndsOfParts
+pub mod RunKeys
+pub mod Folding
+pub mod Reaching

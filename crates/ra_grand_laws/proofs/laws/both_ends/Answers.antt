@@ -1,0 +1,10 @@
+use Rattle.ra_grand_laws.proofs.Reaching.{reached, hear, nothing}
+use Rattle.ra_grand_laws.proofs.laws.both_ends.Goals as goal
+use Rattle.ra_grand.specs.GrandRuns.{run}
+use Rattle.ra_grand.specs.Grands.{new_grand}
+
+pub returns : goal.returns
+returns c = record {
+  hear = λ entries n c s unbroken keys is session. hear (run entries new_grand) n c s (reached entries unbroken keys) is session;
+  nothing = λ entries n c unbroken keys is session. nothing (run entries new_grand) n c (reached entries unbroken keys) is session;
+}

@@ -1,0 +1,26 @@
+-- The runs of which the laws speak.
+use Rattle.std.specs.Prelude.{◌≢◌, List, [], ◌∷◌, ⊤}
+use Rattle.ra_base.specs.TokenGrammar.{IsToken}
+use Rattle.ra_base.specs.declared.kind.Kind.TheVariants.{Tunnel}
+use Rattle.ra_script.specs.declared.grand_line.GrandEvent.{GrandEvent}
+use Rattle.ra_script.specs.declared.grand_line.GrandEvent.TheVariants as events
+use Rattle.ra_grand.specs.Marks.{Mark, whole, short, unticked, Entry}
+
+-- memory did not run out at the server's end of a link
+abbrev pub IsUnbroken : Mark → Type 0
+IsUnbroken whole = ⊤
+IsUnbroken (short draws calls bytes) = ⊥
+IsUnbroken (unticked keys) = ⊤
+
+abbrev pub AreUnbroken : List Entry → Type 0
+AreUnbroken [] = ⊤
+AreUnbroken (entry ∷ entries) = IsUnbroken entry.mark × AreUnbroken entries
+
+-- a client that is made has a token, and is no client of a tunnel
+abbrev pub HasKey : GrandEvent → Type 0
+HasKey (events.Client key) = IsToken key.token × (key.kind ≢ Tunnel)
+HasKey _ = ⊤
+
+abbrev pub HaveKeys : List Entry → Type 0
+HaveKeys [] = ⊤
+HaveKeys (entry ∷ entries) = HasKey entry.event × HaveKeys entries

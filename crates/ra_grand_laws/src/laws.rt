@@ -1,0 +1,105 @@
+//! The laws.
+ghost use Rattle.std.specs.Prelude.{◌≡◌, ◌≢◌, ◌<◌, ℕ, Bool, List, [], ◌++◌, length, All, Option, Some, None, false};
+ghost use Rattle.ra_base.specs.TokenGrammar.{IsToken};
+ghost use Rattle.ra_base.specs.declared.key.Key.{Key};
+ghost use Rattle.ra_base.specs.declared.kind.Kind.TheVariants.{Tunnel};
+ghost use Rattle.ra_opening.specs.Openings.{opened};
+ghost use Rattle.ra_link.specs.LinkRuns.{Welcome};
+ghost use Rattle.ra_dial.specs.Handshakes.{looked_at, fed};
+ghost use Rattle.ra_dial.specs.Clients.{new_shaking, request_of};
+ghost use Rattle.ra_dial.specs.ShakingStates.{ShakingState};
+ghost use Rattle.ra_grand.specs.SetUps.{settings_for, request_head, answer_head, grounds};
+ghost use Rattle.ra_grand.specs.Marks.{Entry};
+ghost use Rattle.ra_grand.specs.GrandClients.{GrandLink, Client};
+ghost use Rattle.ra_grand.specs.GrandEvents.{Ran};
+ghost use Rattle.ra_grand.specs.declared.world.GrandWorld.{GrandWorld};
+ghost use Rattle.ra_grand.specs.Grands.{new_grand};
+ghost use Rattle.ra_script.specs.declared.grand_line.GrandEvent.{GrandEvent};
+ghost use Rattle.ra_session.specs.Sessions.{Session};
+ghost use Rattle.ra_dial.specs.declared.stage.Stage.TheVariants as stages;
+ghost use Rattle.ra_base.specs.declared.key.Seat.{Seat};
+ghost use Rattle.ra_model.specs.Links.{at_number};
+ghost use Rattle.ra_model.specs.Pairs.{messages};
+ghost use Rattle.ra_grand_laws.specs.Ends.{BothHear, LinkHonest, HoldsLink, text_up, text_down, read_up, read_down};
+ghost use Rattle.ra_grand.specs.GrandRuns.{run};
+ghost use Rattle.ra_grand_laws.specs.Runs.{AreUnbroken, HaveKeys};
+ghost use Rattle.ra_grand_laws.specs.Rising.{HubRises, ClientsRise};
+ghost use Rattle.ra_grand_laws.specs.Handshakes.{client_text, OpensAt, Speaks, ReadsHandshake, HasSaid, LooksTo};
+
+/// The opening of a link at the server, on a front of what its client writes: it asks for the client's session exactly where all was read,
+/// and what it writes depends on its first draw alone.
+pub fn openings()
+    ensures opens { (owner : Key) (reconnection : Bool) (key own theirs : List ℕ) (draw : ℕ → List ℕ) (text rest : List ℕ)
+        → IsToken owner.token → owner.kind ≢ Tunnel → length key ≡ 16 → All (λ b. b < 256) key
+        → text ++ rest ≡ client_text owner reconnection key own theirs
+        → OpensAt owner reconnection key own theirs (draw 0) text
+        (opened (grounds draw) (request_head (settings_for owner) reconnection key) text).stage
+        (opened (grounds draw) (request_head (settings_for owner) reconnection key) text) }
+    ensures draws { (owner : Key) (reconnection : Bool) (key own theirs : List ℕ) (draw : ℕ → List ℕ) (text rest : List ℕ)
+        → IsToken owner.token → owner.kind ≢ Tunnel → length key ≡ 16 → All (λ b. b < 256) key
+        → text ++ rest ≡ client_text owner reconnection key own theirs
+        → opened (grounds draw) (request_head (settings_for owner) reconnection key) text
+        ≡ opened (grounds (λ n. draw 0)) (request_head (settings_for owner) reconnection key) text }
+{}
+
+/// The handshake of a client on what such a server writes.
+pub fn handshakes()
+    ensures begins { (owner : Key) (reconnection : Bool) (key own : List ℕ)
+        → ReadsHandshake owner key own [] (new_shaking (settings_for owner) key own)
+        × HasSaid owner reconnection key own (request_of (settings_for owner) reconnection key)
+        (new_shaking (settings_for owner) key own).key (new_shaking (settings_for owner) key own).shake.has_answered }
+    ensures feeds { (owner : Key) (key own read piece : List ℕ) (s : ShakingState) → ReadsHandshake owner key own read s
+        → ReadsHandshake owner key own (read ++ piece) (fed piece s) }
+    ensures looks { (owner : Key) (reconnection : Bool) (key own read more out : List ℕ) (welcome : Option Welcome) (s : ShakingState)
+        → owner.kind ≢ Tunnel → ReadsHandshake owner key own read s → Speaks owner.kind key welcome out → read ++ more ≡ out
+        → LooksTo owner reconnection key own read welcome s
+        (looked_at (settings_for owner) (answer_head s.key s.unread) s).0 (looked_at (settings_for owner) (answer_head s.key s.unread) s).1 }
+{}
+
+/// In every run in which memory did not run out at the server's end of a link, a client and the session of its key are two ends: each has
+/// heard the first of the messages that the other said, each once and in order, and keeps what is not acknowledged. Before there is a
+/// session the client has heard nothing.
+pub fn both_ends()
+    ensures hear { (entries : List Entry) (n : ℕ) (c : Client) (s : Session) → AreUnbroken entries → HaveKeys entries
+        → at_number (run entries new_grand).clients n ≡ Some c → (run entries new_grand).hub.session c.key ≡ Some s
+        → BothHear c.dialer.session.peer s.peer }
+    ensures nothing { (entries : List Entry) (n : ℕ) (c : Client) → AreUnbroken entries → HaveKeys entries
+        → at_number (run entries new_grand).clients n ≡ Some c → (run entries new_grand).hub.session c.key ≡ None
+        → c.dialer.session.peer.heard ≡ [] }
+{}
+
+/// In such a run, behind the handshake of each link whose client was welcomed: what each end wrote is a front of frames that it may write.
+/// An attached client, and a server with the seat of its session's present link, have written whole such frames, but for what is not written
+/// yet, unless the link is cut; and what they read is the frames that they applied, and what they have not.
+pub fn links()
+    ensures honest { (entries : List Entry) (n m : ℕ) (c : Client) (s : Session) (l : GrandLink) (w : Welcome) → AreUnbroken entries
+        → HaveKeys entries → at_number (run entries new_grand).clients n ≡ Some c
+        → (run entries new_grand).hub.session c.key ≡ Some s → at_number c.links m ≡ Some l → l.server.welcome ≡ Some w
+        → LinkHonest c.dialer.session.peer s.peer w l }
+    ensures client { (entries : List Entry) (n : ℕ) (c : Client) (s : Session) (l : GrandLink) → AreUnbroken entries → HaveKeys entries
+        → at_number (run entries new_grand).clients n ≡ Some c → (run entries new_grand).hub.session c.key ≡ Some s
+        → c.dialer.stage ≡ stages.Attached → at_number c.links (length c.links) ≡ Some l → c.dialer.session.cause ≡ None
+        → (w : Welcome) × (l.server.welcome ≡ Some w)
+        × HoldsLink (messages c.dialer.session.peer.endpoint) c.dialer.session.peer (text_up w l) (read_down w l) l.link.is_cut }
+    ensures server { (entries : List Entry) (n m : ℕ) (c : Client) (s : Session) (l : GrandLink) (seat : Seat) → AreUnbroken entries
+        → HaveKeys entries → at_number (run entries new_grand).clients n ≡ Some c
+        → (run entries new_grand).hub.session c.key ≡ Some s → at_number c.links m ≡ Some l → l.server.is_over ≡ false
+        → l.server.seat ≡ Some seat → seat.epoch ≡ s.peer.endpoint.epoch
+        → (w : Welcome) × (l.server.welcome ≡ Some w) × (seat.key ≡ c.key)
+        × HoldsLink (messages s.peer.endpoint) s.peer (text_down w l) (read_up w l) l.link.is_cut }
+{}
+
+/// What `run_grand` answers is such a run, where none of its marks tells of want of memory at the server's end of a link: its clients have
+/// tokens, and are no clients of tunnels.
+pub fn accepted()
+    ensures { (events : List GrandEvent) (world : GrandWorld) (ran : Ran events world) → HaveKeys ran.entries }
+{}
+
+/// Nothing is taken back in a run: what was said and heard stays and only grows, and sent, received and acknowledged never fall. A client
+/// and a session of the server that are there stay there.
+pub fn rising()
+    ensures clients { (entries later : List Entry)
+        → ClientsRise (run entries new_grand) (run later (run entries new_grand)) }
+    ensures sessions { (entries later : List Entry)
+        → HubRises (run entries new_grand).hub (run later (run entries new_grand)).hub }
+{}
