@@ -25,7 +25,7 @@ use Rattle.ra_link.specs.LinkRuns.{Serving, request_refused, refused_by, writes,
 use Rattle.ra_link.specs.Makes.{Base, Happens, Grows, IsGoing, IsEnded, IsUnkept, IsShort, Makes, RefusesRequest, outcome_of, over_by, session_end, hub_end}
 use Rattle.ra_link.specs.declared.ends.CoreEnd.TheVariants as ends
 use Rattle.ra_link.specs.declared.turns.Step.{Step}
-use Rattle.ra_link.proofs.GrowLemmas.{happens_more, grows_trans, grows_writes, grows_does, grows_attached, grows_asked}
+use Rattle.ra_link.proofs.GrowLemmas.{grows_trans, grows_writes, happens_does, grows_attached, grows_asked}
 use Rattle.ra_link.proofs.TurnLemmas.{stays_refused, short_at}
 
 -- ---- the session begins
@@ -306,7 +306,7 @@ refusal_unwritten ask reason place chunk now old new jobs base out out' s v why 
     let g = refused_going ask reason now old new jobs base out v why stands going in
     subst (λ (u : Serving). IsShort None new jobs base out' s u) (asked_refused ask reason place chunk now v why)
     (short_at None new jobs jobs base out out' s w (ends_by (request_refused reason) (writes (refusal_bytes reason) w)) g refl nothing
-    (happens_more s v w came (grows_does v (Admit ask now) v.seat v.welcome v.end (refuse_seat ask reason now v why)))
+    (happens_does s v (Admit ask now) v.seat came (refuse_seat ask reason now v why))
     (grows_writes w (refusal_bytes reason) _ _))
 
 abbrev IsAnswered : Step → (new : Hub → Type 0) (jobs : Option (List SeenJob)) (base : Base) (out : List ℕ) (s u : Serving) → Type 0

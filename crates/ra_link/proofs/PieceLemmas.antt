@@ -26,14 +26,14 @@ use Rattle.ra_hub.specs.Hubs.{Hub}
 use Rattle.ra_hub.specs.Jobs.{SeenJob}
 use Rattle.ra_link.specs.LinkRuns as runs
 use Rattle.ra_link.specs.LinkRuns.{Serving, End, Piece, asked, opening_by, opening_came, piece_by, piece_done, with_piece, served, turns_for}
-use Rattle.ra_link.specs.Makes.{Outcome, goes, over, unkept, short, Happens, Grows, IsGoing, IsEnded, IsShort, Makes, outcome_of, opening_end, IsSeated, IsSeatedIn}
+use Rattle.ra_link.specs.Makes.{Outcome, goes, over, unkept, short, Happens, Grows, Writes, IsGoing, IsEnded, IsShort, Makes, outcome_of, opening_end, IsSeated, IsSeatedIn}
 use Rattle.ra_link.specs.Cores.{IsOpening, CoreStands, CoreMakes, NotHeld, OnHeld, IsBehindHead, counted_in, base_of, phase_of}
 use Rattle.ra_link.specs.declared.ends.CoreEnd.{CoreEnd}
 use Rattle.ra_link.specs.declared.ends.CoreEnd.TheVariants as ends
 use Rattle.ra_link.specs.declared.phase.Phase.{Phase}
 use Rattle.ra_link.specs.declared.phase.Phase.TheVariants as phases
 use Rattle.ra_link.specs.declared.turns.Step.{Step}
-use Rattle.ra_link.proofs.GrowLemmas.{happens_same, happens_more, grows_served, grows_same, grows_refl, grows_trans, grows_asked}
+use Rattle.ra_link.proofs.GrowLemmas.{happens_same, happens_more, grows_by, grows_served, grows_trans, writes_same, writes_refl, writes_asked}
 use Rattle.ra_link.proofs.CutLemmas.{CutOrNot, IsCut, front_taken, with_longer, open_items}
 use Rattle.ra_link.proofs.ComeLemmas.{behind_counts, still_judged}
 use Rattle.ra_link.proofs.DrawLemmas.{same_draws}
@@ -106,11 +106,17 @@ opening_waits (Shaking shake) text now v waits = refl
 opening_waits (Asked request place) text now v waits = absurd waits
 opening_waits (Over end) text now v waits = absurd waits
 
+writes_opening : (stage : Stage) (text : List ℕ) (now : ℕ) (v : Serving) → Writes v (opening_by stage text now v)
+writes_opening Heading text now v = writes_refl v
+writes_opening (Shaking shake) text now v = writes_refl v
+writes_opening (Asked request place) text now v = writes_asked request place (drop place text) now v
+writes_opening (Over end) text now v = writes_same v _ _
+
 grows_opening : (stage : Stage) (text : List ℕ) (now : ℕ) (v : Serving) → Grows v (opening_by stage text now v)
-grows_opening Heading text now v = grows_refl v
-grows_opening (Shaking shake) text now v = grows_refl v
-grows_opening (Asked request place) text now v = grows_asked request place (drop place text) now v
-grows_opening (Over end) text now v = grows_same v _ _
+grows_opening stage text now v = grows_by v (opening_by stage text now v) (writes_opening stage text now v)
+
+pub writes_came : (o : Opened) (text : List ℕ) (now : ℕ) (s : Serving) → Writes (record s { out = o.out; drawn = o.drawn }) (opening_came o text now s)
+writes_came o text now s = writes_opening o.stage text now (record s { out = o.out; drawn = o.drawn })
 
 -- the link with what its opening wrote
 abbrev pub opened_as : Opened → Serving → Serving
@@ -288,7 +294,7 @@ short_uncut opening g head text piece before next next' stands jobs out out' now
     let is : u ≡ piece_done g head text (record { bytes = piece; now = now }) s =
     ap (λ (t : List ℕ). opening_came (opened g head t) t now s) (sym counts)
     ∙ sym (piece_opening g head text (record { bytes = piece; now = now }) s x.going.seat_is x.going.end_is) in
-    let more : Grows p v = record { bytes = r.is_part.more; out = r.is_part.out; happens = happens_same p o.out o.drawn s.welcome s.end r.is_part.drawn } in
+    let more : Grows p v = record { bytes = r.is_part.more; out = r.is_part.out; happens = happens_same p o.out o.drawn s.welcome s.end r.is_part.drawn; enough = omega arith } in
     subst (λ (w : Serving). IsShort None stands jobs (base_of g before next') out' s w) is
     (record {
       part = p;
@@ -330,7 +336,7 @@ short_cut opening g head text piece before next next' stands jobs out out' now s
     ∙ sym (piece_opening g head text (record { bytes = piece; now = now }) s x.going.seat_is x.going.end_is) in
     let later : r.part.drawn ≤ o.drawn = omega (arith, r.is_part.drawn, front_draws g head text piece cut.early cut.judged) in
     let grown : IsPart (opened g head text) o = written_stays g head text (take (head.size - length text) piece) in
-    let more : Grows p v = record { bytes = grown.more; out = grown.out ∙ ap (λ (l : List ℕ). l ++ grown.more) (sym x.written); happens = happens_same p o.out o.drawn s.welcome s.end later } in
+    let more : Grows p v = record { bytes = grown.more; out = grown.out ∙ ap (λ (l : List ℕ). l ++ grown.more) (sym x.written); happens = happens_same p o.out o.drawn s.welcome s.end later; enough = omega arith } in
     subst (λ (w : Serving). IsShort None stands jobs (base_of g before next') out' s w) is
     (record {
       part = p;

@@ -1,10 +1,12 @@
--- The calls of a hub that a link makes, as events: what each makes of a hub, the jobs that it gives, and the seat that the link has then.
+-- The calls of a hub that a link makes, as events: what each makes of a hub, the jobs that it gives, the bytes that the link writes for it,
+-- and the seat that the link has then.
 use Rattle.std.specs.Prelude.{ℕ, List, [], ◌∷◌, ◌++◌, Option, Some, None}
 use Rattle.ra_base.specs.declared.handshake.Reason.{Reason}
 use Rattle.ra_base.specs.declared.handshake.Request.{Request}
 use Rattle.ra_base.specs.declared.key.Cause.{Cause}
 use Rattle.ra_base.specs.declared.key.Key.{Key}
 use Rattle.ra_base.specs.declared.key.Seat.{Seat}
+use Rattle.ra_opening.specs.Verdicts.{refusal_bytes, acceptance_bytes}
 use Rattle.ra_registry.specs.Admission.{admission_refusal, seat_for}
 use Rattle.ra_session.specs.Hearing.{Happening, work, host, call_settled, event_fired}
 use Rattle.ra_session.specs.SessionCalls.{attach}
@@ -62,7 +64,32 @@ event_jobs (Turn seat piece now) h = session_jobs (h.session seat.key) seat piec
 event_jobs (Lose seat now) h = []
 event_jobs (Close seat cause now) h = []
 
--- events one after the other
+-- ---- bytes
+
+-- a request is accepted or refused
+abbrev pub admission_bytes : Option Reason → Seat → List ℕ
+admission_bytes None given = acceptance_bytes given.key.kind
+admission_bytes (Some reason) given = refusal_bytes reason
+
+-- a turn that is refused writes none
+abbrev pub turn_bytes : Option Refusal → TurnAnswer → List ℕ
+turn_bytes None answer = answer.out
+turn_bytes (Some refusal) answer = []
+
+abbrev pub session_bytes : Option Session → Seat → List ℕ → ℕ → List ℕ
+session_bytes None seat piece now = []
+session_bytes (Some s) seat piece now = turn_bytes (turn_refusal seat.epoch piece now s) (turn_answer seat.epoch piece now s)
+
+-- what the link writes for this call
+unfoldable pub event_bytes : HubEvent → Hub → List ℕ
+event_bytes (Admit ask now) h = admission_bytes (admission_refusal h.registry ask now) (seat_for h.registry ask)
+event_bytes (Attach seat chunk now) h = []
+event_bytes (Turn seat piece now) h = session_bytes (h.session seat.key) seat piece now
+event_bytes (Lose seat now) h = []
+event_bytes (Close seat cause now) h = []
+
+-- ---- events one after the other
+
 abbrev pub events_done : List HubEvent → Hub → Hub
 events_done [] h = h
 events_done (e ∷ es) h = events_done es (event_done e h)
@@ -70,6 +97,10 @@ events_done (e ∷ es) h = events_done es (event_done e h)
 abbrev pub events_jobs : List HubEvent → Hub → List SeenJob
 events_jobs [] h = []
 events_jobs (e ∷ es) h = event_jobs e h ++ events_jobs es (event_done e h)
+
+abbrev pub events_bytes : List HubEvent → Hub → List ℕ
+events_bytes [] h = []
+events_bytes (e ∷ es) h = event_bytes e h ++ events_bytes es (event_done e h)
 
 -- ---- seats
 

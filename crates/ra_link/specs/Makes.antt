@@ -1,5 +1,5 @@
 -- What a step of the code makes of a link that tells, and how far it came where memory ran out.
-use Rattle.std.specs.Prelude.{◌≡◌, ℕ, ◌+◌, ◌≤◌, ◌<◌, Bool, true, false, Option, Some, None, option_map, List, ◌++◌, ◌⊎◌}
+use Rattle.std.specs.Prelude.{◌≡◌, ℕ, ◌+◌, ◌≤◌, ◌<◌, Bool, true, false, Option, Some, None, option_map, List, ◌++◌, ◌⊎◌, length}
 use Rattle.ra_base.specs.declared.handshake.Request.{Request}
 use Rattle.ra_base.specs.declared.key.Cause.TheVariants.{BadIpc, Disconnected}
 use Rattle.ra_base.specs.declared.key.Key.{Key}
@@ -19,7 +19,7 @@ use Rattle.ra_hub.specs.HubSeats.{one_if, same_seat}
 use Rattle.ra_hub.specs.Jobs.{SeenJob}
 use Rattle.ra_hub.specs.declared.fault.HubFault.{HubFault}
 use Rattle.ra_hub.specs.declared.fault.HubFault.TheVariants as hub_faults
-use Rattle.ra_link.specs.HubEvents.{HubEvent, events_done, events_jobs, seats_by, jobs_of}
+use Rattle.ra_link.specs.HubEvents.{HubEvent, events_done, events_jobs, events_bytes, seats_by, jobs_of}
 use Rattle.ra_link.specs.LinkRuns.{Serving, End, head_refused, request_refused, refused_by, turned_again, asked}
 use Rattle.ra_link.specs.declared.ends.CoreEnd.{CoreEnd}
 use Rattle.ra_link.specs.declared.ends.CoreEnd.TheVariants as ends
@@ -51,11 +51,17 @@ pub record Happens (s t : Serving) : Type 0 where
   pub drawn : s.drawn ≤ t.drawn
   pub seat : t.seat ≡ seats_by more s.hub s.seat
 
--- and further bytes were written
+-- and further bytes were written, at least those of the further events
 pub record Grows (s t : Serving) : Type 0 where
   pub bytes : List ℕ
   pub out : t.out ≡ s.out ++ bytes
   pub happens : Happens s t
+  pub enough : length (events_bytes happens.more s.hub) ≤ length bytes
+
+-- the further bytes are those of the further events
+pub record Writes (s t : Serving) : Type 0 where
+  pub happens : Happens s t
+  pub out : t.out ≡ s.out ++ events_bytes happens.more s.hub
 
 pub record IsGoing (seat : Option Seat) (stands : Hub → Type 0) (jobs : Option (List SeenJob)) (base : Base) (out : List ℕ) (u : Serving) : Type 0 where
   pub tells : Tells stands jobs base out u

@@ -1,7 +1,7 @@
 use Rattle.std.proofs.Common.{Some, sym}
 use Rattle.ra_link.specs.HubEvents.HubEvent.{Admit}
 use Rattle.ra_link.specs.LinkRuns.{does}
-use Rattle.ra_link.proofs.GrowLemmas.{happens_more, grows_does}
+use Rattle.ra_link.proofs.GrowLemmas.{happens_does}
 use Rattle.ra_link.proofs.AskLemmas.{given_seat, request_refuses, admit_going, admit_serves, admit_seat, seat_kind}
 use Rattle.ra_link.proofs.ask.ask.Goals as goal
 
@@ -19,5 +19,5 @@ returns-in-Ok-clause-made g c = λ place base s v going grows.
     let going' = admit_going c.args.request c.in-Ok.seat c.args.now (g.H.Hub.stands c.args.hub.now) (g.H.Hub.stands c.admit.new.self) _ base _ v c.in-Ok.ensures.told going in
     let is = admit_serves c.args.request c.in-Ok.seat place c.args.chunk.now c.args.now (g.H.Hub.stands c.args.hub.now) (g.H.Hub.stands c.admit.new.self) _ base _ v c.in-Ok.ensures.told going in
     let seat = admit_seat c.args.request c.in-Ok.seat c.args.now (g.H.Hub.stands c.args.hub.now) (g.H.Hub.stands c.admit.new.self) _ base _ v c.in-Ok.ensures.told going in
-    let given = happens_more s v (record w { seat = Some c.in-Ok.seat }) grows (grows_does v (Admit c.args.request c.args.now) (Some c.in-Ok.seat) v.welcome v.end seat) in
+    let given = happens_does s v (Admit c.args.request c.args.now) (Some c.in-Ok.seat) grows seat in
     rw (sym is) (c.welcome.ensures.made place base s w kind going' given)

@@ -1,7 +1,7 @@
 use Rattle.std.proofs.Common.{refl}
 use Rattle.ra_link.specs.HubEvents.HubEvent.{Attach}
 use Rattle.ra_link.specs.LinkRuns.{does}
-use Rattle.ra_link.proofs.GrowLemmas.{happens_more, grows_does}
+use Rattle.ra_link.proofs.GrowLemmas.{happens_does}
 use Rattle.ra_link.proofs.AskLemmas.{attach_refuses, attach_going, attach_serves}
 use Rattle.ra_link.proofs.ask.begin.Goals as goal
 
@@ -14,4 +14,4 @@ returns-in-Ok-clause-made g c = λ base s v going grows.
     let w = does (Attach c.args.seat c.args.chunk.now c.args.now) v in
     let going' = attach_going c.args.seat c.args.chunk.now c.args.now (g.H.Hub.stands c.args.hub.now) (g.H.Hub.stands c.attach.new.self) _ base _ v c.in-Ok.ensures.told going in
     let is = attach_serves c.args.seat c.args.chunk.now c.args.now (g.H.Hub.stands c.args.hub.now) (g.H.Hub.stands c.attach.new.self) _ base _ v c.in-Ok.ensures.told going in
-    rw is (c.serve_turns.ensures.made base s w going' (happens_more s v w grows (grows_does v (Attach c.args.seat c.args.chunk.now c.args.now) v.seat v.welcome v.end refl)))
+    rw is (c.serve_turns.ensures.made base s w going' (happens_does s v (Attach c.args.seat c.args.chunk.now c.args.now) v.seat grows refl))

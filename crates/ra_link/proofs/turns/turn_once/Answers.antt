@@ -1,5 +1,5 @@
 use Rattle.ra_link.proofs.TurnLemmas.{short_at, turn_refuses, turn_going, turn_serves}
-use Rattle.ra_link.proofs.GrowLemmas.{grows_served, happens_more, grows_does}
+use Rattle.ra_link.proofs.GrowLemmas.{grows_served, happens_does}
 use Rattle.ra_link.specs.HubEvents.HubEvent.{Turn}
 use Rattle.ra_link.specs.LinkRuns.{does, served}
 use Rattle.std.proofs.Common.{refl, sym}
@@ -18,4 +18,4 @@ returns-in-Ok-clause-made g c = λ n base s v going grows.
     let w = does (Turn c.args.seat c.args.piece.now c.args.now) v in
     let going' = turn_going c.in-Ok.turn c.args.seat c.args.piece.now c.args.now (g.H.Hub.stands c.args.hub.now) (g.H.Hub.stands c.turn.new.self) _ _ base _ v c.in-Ok.ensures.told c.reserve.ensures.same going in
     let is = turn_serves n c.in-Ok.turn c.args.seat c.args.piece.now c.args.now (g.H.Hub.stands c.args.hub.now) (g.H.Hub.stands c.turn.new.self) _ base _ v c.in-Ok.ensures.told going in
-    rw (sym is) (c.take_turn.ensures.made n base s w going' (happens_more s v w grows (grows_does v (Turn c.args.seat c.args.piece.now c.args.now) v.seat v.welcome v.end refl)))
+    rw (sym is) (c.take_turn.ensures.made n base s w going' (happens_does s v (Turn c.args.seat c.args.piece.now c.args.now) v.seat grows refl))
