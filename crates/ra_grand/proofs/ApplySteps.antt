@@ -1,5 +1,5 @@
 -- An event that is applied whole.
-use Rattle.std.proofs.Common.{◌≡◌, ℕ, ◌+◌, List, [], length, Option, None, Result, Ok, Err, max, refl, subst}
+use Rattle.std.proofs.Common.{◌≡◌, ℕ, ◌+◌, List, [], length, Option, None, Some, Result, Ok, Err, max, refl, subst}
 use Rattle.std.specs.Prelude.{ℤ}
 use Rattle.ra_base.specs.declared.event.Count.{Count}
 use Rattle.ra_base.specs.declared.event.Side.TheVariants.{A, B}
@@ -18,23 +18,56 @@ use Rattle.ra_script.specs.declared.grand_line.GrandEvent.{GrandEvent}
 use Rattle.ra_script.specs.declared.grand_line.GrandEvent.TheVariants as events
 use Rattle.ra_grand.specs.declared.effect.GrandEffect.{GrandEffect}
 use Rattle.ra_grand.specs.declared.fault.GrandFault.{GrandFault}
+use Rattle.ra_grand.specs.Fits.{MovesFit, EventFits}
 use Rattle.ra_grand.specs.GrandEffects.{Effect, done, made, outcome, act_of, next_id, moved_up, moved_down, effect}
 use Rattle.ra_grand.specs.GrandRefusals.{of_link, if_over, if_unread, of_client, if_taken, if_not_dialling, unrefused, if_session, refusal}
 use Rattle.ra_grand.specs.GrandRuns.{joins, on_dialer, on_session, links, bytes_up, bytes_down, comes_down, cuts, happens}
 use Rattle.ra_grand.specs.GrandViews.{Answers, Applies, effect_of}
-use Rattle.ra_grand.specs.Grands.{Grand, find_link, on_link}
+use Rattle.ra_grand.specs.Grands.{Grand, Found, find_link, on_link}
 use Rattle.ra_grand.specs.Marks.{Mark, whole}
 use Rattle.ra_grand.specs.ServedLinks.{piece_came, server_left}
 
+-- ---- marks
+
+moves_fit : (bytes : Found → List ℕ) (found : Option Found) (w : Grand) → MovesFit whole bytes found w
+moves_fit bytes None w = tt {0}
+moves_fit bytes (Some f) w = tt {0}
+
+-- an event that is applied whole fits any world
+whole_fits : (event : GrandEvent) (w : Grand) → EventFits whole event w
+whole_fits (events.At now) w = tt {0}
+whole_fits (events.Client key) w = tt {0}
+whole_fits (events.Step n) w = tt {0}
+whole_fits (events.Linked n) w = tt {0}
+whole_fits (events.NoLink n) w = tt {0}
+whole_fits (events.Up link count) w = moves_fit (λ f. bytes_up count f.link) (find_link link w) w
+whole_fits (events.Idle link) w = moves_fit (λ f. []) (find_link link w) w
+whole_fits (events.Down link count) w = tt {0}
+whole_fits (events.Frame n) w = tt {0}
+whole_fits (events.Cut link) w = tt {0}
+whole_fits (events.Gone link) w = tt {0}
+whole_fits (events.Lost n) w = tt {0}
+whole_fits events.Sweep w = tt {0}
+whole_fits (events.Work job) w = tt {0}
+whole_fits (events.Call n channel name arg) w = tt {0}
+whole_fits (events.CallText n channel name arg) w = tt {0}
+whole_fits (events.Listen n channel name) w = tt {0}
+whole_fits (events.Cancel n id) w = tt {0}
+whole_fits (events.Dispose n id) w = tt {0}
+whole_fits (events.Say n body) w = tt {0}
+whole_fits (events.Stop n) w = tt {0}
+
+-- ---- events
+
 pub applies_whole : (result : Result GrandEffect GrandFault) (event : GrandEvent) (w : Grand) (After : Grand → Type 0)
     → Answers result (refusal event w) (effect whole event w) (After (happens whole event w)) (After w) → Applies result event w After
-applies_whole (Ok answer) event w After is = (whole, is.0, is.1, is.2)
+applies_whole (Ok answer) event w After is = (whole, is.0, is.1, is.2, whole_fits event w)
 applies_whole (Err fault) event w After is = is
 
 pub applies_at : (answer : GrandEffect) (now : ℕ) (w : Grand) (After : Grand → Type 0) → effect_of answer ≡ done → After (record w { now = max w.now now })
     → Applies (Ok answer) (events.At now) w After
 unfolding refusal effect happens
-applies_at answer now w After is then = (whole, refl, is, then)
+applies_at answer now w After is then = (whole, refl, is, then, tt {0})
 
 abbrev Dials : Result GrandEffect GrandFault → ℕ → DialEvent → Grand → (Grand → Type 0) → Type 0
 Dials result client event w After =
@@ -145,20 +178,20 @@ unfolding refusal effect happens
 applies_gone result link w After is = applies_whole result (events.Gone link) w After is
 
 applies_marked : (result : Result GrandEffect GrandFault) (event : GrandEvent) (w : Grand) (After : Grand → Type 0) (mark : Mark)
-    → Answers result (refusal event w) (effect mark event w) (After (happens mark event w)) (After w) → Applies result event w After
-applies_marked (Ok answer) event w After mark is = (mark, is.0, is.1, is.2)
+    → Answers result (refusal event w) (effect mark event w) (After (happens mark event w) × EventFits mark event w) (After w) → Applies result event w After
+applies_marked (Ok answer) event w After mark is = (mark, is.0, is.1, is.2.0, is.2.1)
 applies_marked (Err fault) event w After mark is = is
 
 pub applies_up : (result : Result GrandEffect GrandFault) (link : ℕ) (count : Count) (w : Grand) (After : Grand → Type 0)
     → (mark : Mark) × Answers result (of_link link (λ l. or_fault (if_over link l) (if_unread B count l)) (find_link link w)) (moved_up mark (λ f. bytes_up count f.link) (find_link link w) w)
-    (After (on_link (λ f. piece_came mark (bytes_up count f.link) f) (find_link link w) w)) (After w)
+    (After (on_link (λ f. piece_came mark (bytes_up count f.link) f) (find_link link w) w) × MovesFit mark (λ f. bytes_up count f.link) (find_link link w) w) (After w)
     → Applies result (events.Up link count) w After
 unfolding refusal effect happens
 applies_up result link count w After is = applies_marked result (events.Up link count) w After is.0 is.1
 
 pub applies_idle : (result : Result GrandEffect GrandFault) (link : ℕ) (w : Grand) (After : Grand → Type 0)
     → (mark : Mark) × Answers result (of_link link (if_over link) (find_link link w)) (moved_up mark (λ f. []) (find_link link w) w)
-    (After (on_link (piece_came mark []) (find_link link w) w)) (After w)
+    (After (on_link (piece_came mark []) (find_link link w) w) × MovesFit mark (λ f. []) (find_link link w) w) (After w)
     → Applies result (events.Idle link) w After
 unfolding refusal effect happens
 applies_idle result link w After is = applies_marked result (events.Idle link) w After is.0 is.1

@@ -56,6 +56,7 @@ swept_one s server told sweeps_so w stands =
       refl,
       ap (λ (n : ℕ). swept n told.short) made.expired ∙ ap (λ (n : ℕ). swept (length (expired_keys w)) n) made.short,
       with_server s server w (sweeps made.mark w) stands made.stands (refl, refl),
+      tt {0},
     )
 
 -- ---- a job
@@ -125,6 +126,7 @@ worked_one s server number at is less works w stands =
       ap (λ (x : Option SeenJob). of_job (suc at) w x) (job_there s w at job.0 stands job.1) ∙ ap by_session made.0,
       refl,
       with_server s server w (worked (suc at) w) stands (subst (λ (n : ℕ). StandsForServer server (worked n w)) (omega arith) made.1) (worked_same (suc at) w),
+      tt {0},
     )
 
 pub not_worked : (s : GrandWorld) (server : ServerState) (number at : ℕ) (fault : SessionFault) (result : GrandFault) → number ≡ suc at → at < length (jobs_in s.server.jobs)

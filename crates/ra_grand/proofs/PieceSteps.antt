@@ -1,6 +1,6 @@
 -- A piece at the server's end of a link in memory, and how much of it was done.
 use Rattle.std.proofs.Common.{◌≡◌, ℕ, ◌+◌, ◌-◌, ◌≤◌, Bool, true, false, Option, Some, None, List, [], ◌++◌, length, take, drop, map, refl, sym, ap, subst, ◌∙◌, append_assoc, arith}
-use Rattle.std.proofs.lemmas.List.{take_at, drop_at}
+use Rattle.std.proofs.lemmas.List.{take_at, drop_at, length-append}
 use Rattle.std.proofs.Math.Path.{fun_ext}
 use Rattle.std.specs.Option.{is_some}
 use Rattle.ra_keep.specs.declared.mem_keeper.MemKeeper.{MemKeeper}
@@ -16,7 +16,7 @@ use Rattle.ra_hub.specs.JobLists.{jobs_in}
 use Rattle.ra_hub.specs.Keeping.{Stands}
 use Rattle.ra_hub.specs.declared.jobs.JobList.{JobList}
 use Rattle.ra_hub.specs.declared.plain.PlainHub.{PlainHub}
-use Rattle.ra_link.specs.HubEvents.{HubEvent, events_done, events_jobs, seats_by}
+use Rattle.ra_link.specs.HubEvents.{HubEvent, events_done, events_jobs, events_bytes, seats_by}
 use Rattle.ra_link.specs.LinkRuns.{Serving, End, asks_framing, with_piece, piece_done}
 use Rattle.ra_link.specs.Makes.{Happens, Grows, Tells, Outcome, goes, over, unkept, short, outcome_of}
 use Rattle.ra_link.specs.Cores.{CoreStands, CoreMakes, NotHeld, base_of, seat_in}
@@ -27,6 +27,7 @@ use Rattle.ra_link.specs.declared.phase.Phase.TheVariants as phases
 use Rattle.ra_link.proofs.PieceLemmas.{piece_happens}
 use Rattle.ra_grand.proofs.FreeLinks.{core_free}
 use Rattle.ra_grand.specs.Draws.{nth_draw, draws_after}
+use Rattle.ra_grand.specs.Fits.{IsPart, bytes_behind}
 use Rattle.ra_grand.specs.GrandClients.{GrandLink, ServerEnd}
 use Rattle.ra_grand.specs.GrandEffects.{moved}
 use Rattle.ra_grand.specs.Grands.{Grand}
@@ -71,6 +72,29 @@ part_alike s p u out none is came_so comes =
       drawn = omega (arith, came_so.drawn);
       hub = ap (λ (es : List HubEvent). events_done es s.hub) front ∙ sym came_so.hub;
       jobs = ap (λ (es : List HubEvent). s.jobs ++ events_jobs es s.hub) front ∙ sym came_so.jobs;
+    }
+
+-- the mark of a part fits
+part_fits : (s p u : Serving) (out : List ℕ) → s.events ≡ [] → p.out ≡ s.out ++ out → Happens s p → Grows p u
+    → IsPart (p.drawn - s.drawn) (length p.events) (length out) s u
+part_fits s p u out none is came_so comes =
+    let more = comes.happens.more in
+    let own : p.events ≡ came_so.more = came_so.events ∙ ap (λ (es : List HubEvent). es ++ came_so.more) none in
+    let made : take (length p.events) u.events ≡ came_so.more =
+    ap (λ (es : List HubEvent). take (length p.events) es) comes.happens.events ∙ take_at p.events more (length p.events) refl ∙ own in
+    let left : drop (length p.events) u.events ≡ more =
+    ap (λ (es : List HubEvent). drop (length p.events) es) comes.happens.events ∙ drop_at p.events more (length p.events) refl in
+    let behind : bytes_behind (length p.events) s u ≡ events_bytes more p.hub =
+    ap (λ (es : List HubEvent). events_bytes es (events_done (take (length p.events) u.events) s.hub)) left
+    ∙ ap (λ (es : List HubEvent). events_bytes more (events_done es s.hub)) made
+    ∙ ap (λ (h : Hub). events_bytes more h) (sym came_so.hub) in
+    let counts : length u.events ≡ length p.events + length more = ap length comes.happens.events ∙ length-append p.events more in
+    let sizes : length u.out ≡ length p.out + length comes.bytes = ap length comes.out ∙ length-append p.out comes.bytes in
+    let before : length p.out ≡ length s.out + length out = ap length is ∙ length-append s.out out in
+    record {
+      draws_made = omega (arith, came_so.drawn, comes.happens.drawn);
+      calls_made = omega (arith, counts);
+      bytes_put = omega (arith, ap length behind, sizes, before, comes.enough);
     }
 
 -- ---- what is shared
@@ -160,6 +184,7 @@ took_by goes core hub drawn jobs bytes out l w x all asks = (
     goes = core_goes core (draw_at l w) l.server.head (l.server.seen ++ bytes) l.server.out (draws_after drawn) (Stands hub) (Some (map seen (jobs_in jobs))) out (served bytes l w) x
         (core_free core (grounds (draw_at l w)) l.server.head (l.server.seen ++ bytes) l.server.out (draws_after drawn) (Stands hub) (Some (map seen (jobs_in jobs))) out (served bytes l w) x asks);
     whole = all;
+    fits = tt {0};
   },
 )
 took_by (over end) core hub drawn jobs bytes out l w x all asks = (
@@ -171,6 +196,7 @@ took_by (over end) core hub drawn jobs bytes out l w x all asks = (
     moved = ap (λ (e : Option End). moved bytes e) x.end_is;
     goes = tt {0};
     whole = all;
+    fits = tt {0};
   },
 )
 took_by unkept core hub drawn jobs bytes out l w x all asks =
@@ -183,6 +209,7 @@ took_by unkept core hub drawn jobs bytes out l w x all asks =
         moved = refl;
         goes = tt {0};
         whole = all;
+        fits = part_fits (serving_at l w) x.part (served bytes l w) out refl x.tells.out_is x.came x.comes;
       },
     )
 took_by short core hub drawn jobs bytes out l w x all asks =
@@ -195,6 +222,7 @@ took_by short core hub drawn jobs bytes out l w x all asks =
         moved = refl;
         goes = tt {0};
         whole = all;
+        fits = part_fits (serving_at l w) x.part (served bytes l w) out refl x.tells.out_is x.came x.comes;
       },
     )
 

@@ -1,6 +1,6 @@
 -- Bytes are taken by the server's end of a link, and what it wrote is put on the link, or finds no memory there.
-use Rattle.std.proofs.Common.{◌≡◌, ℕ, ◌+◌, ◌-◌, ◌<◌, Bool, true, false, Result, Ok, Err, OnOk, OnErr, List, [], ◌++◌, if◌then◌else◌, length, take, refl, ap, sym, ◌∙◌, subst, append-nil, arith}
-use Rattle.std.proofs.lemmas.List.{take_all}
+use Rattle.std.proofs.Common.{◌≡◌, ℕ, ◌+◌, ◌-◌, ◌<◌, Bool, true, false, Result, Ok, Err, OnOk, OnErr, List, [], ◌++◌, if◌then◌else◌, length, take, drop, refl, ap, sym, ◌∙◌, subst, append-nil, arith}
+use Rattle.std.proofs.lemmas.List.{take_all, drop_all, length-append}
 use Rattle.ra_base.specs.declared.event.Side.TheVariants.{B}
 use Rattle.ra_keep.specs.declared.mem_keeper.MemKeeper.{MemKeeper}
 use Rattle.ra_model.specs.Links.{Link, read_on}
@@ -8,7 +8,7 @@ use Rattle.ra_hub.specs.Hubs.{Hub}
 use Rattle.ra_hub.specs.Keeping.{Stands}
 use Rattle.ra_hub.specs.declared.jobs.JobList.{JobList}
 use Rattle.ra_hub.specs.declared.plain.PlainHub.{PlainHub}
-use Rattle.ra_link.specs.HubEvents.{HubEvent, events_done, events_jobs, seats_by}
+use Rattle.ra_link.specs.HubEvents.{HubEvent, events_done, events_jobs, events_bytes, seats_by}
 use Rattle.ra_link.specs.LinkRuns.{Serving}
 use Rattle.ra_link.specs.Makes.{Happens, Outcome, short}
 use Rattle.ra_link.specs.declared.phase.Phase.{Phase}
@@ -18,6 +18,7 @@ use Rattle.ra_grand.specs.ClientLinks.{LinkTurnsAt}
 use Rattle.ra_grand.specs.ClientStates.{ClientState}
 use Rattle.ra_grand.specs.Crowds.{ClientsStand}
 use Rattle.ra_grand.specs.Draws.{draws_after}
+use Rattle.ra_grand.specs.Fits.{IsPart, MarkFits, bytes_behind}
 use Rattle.ra_grand.specs.GrandClients.{GrandLink, Client}
 use Rattle.ra_grand.specs.GrandEffects.{broke, moved_by}
 use Rattle.ra_grand.specs.GrandStates.{StandsForGrand}
@@ -76,6 +77,25 @@ cut_moved whole bytes s u = refl
 cut_moved (short_mark draws calls put) bytes s u = refl
 cut_moved (unticked keys) bytes s u = refl
 
+-- all calls were made, so nothing is left for them
+whole_fits : (s u : Serving) (out : List ℕ) → Happens s u → u.out ≡ s.out ++ out → IsPart (u.drawn - s.drawn) (length u.events) 0 s u
+whole_fits s u out happens is =
+    let none : drop (length u.events) u.events ≡ [] = drop_all (length u.events) u.events (omega arith) in
+    let behind : bytes_behind (length u.events) s u ≡ [] =
+    ap (λ (es : List HubEvent). events_bytes es (events_done (take (length u.events) u.events) s.hub)) none in
+    record {
+      draws_made = omega (arith, happens.drawn);
+      calls_made = omega arith;
+      bytes_put = omega (arith, ap length behind, ap length is, length-append s.out out);
+    }
+
+cut_fits : (mark : Mark) (s u : Serving) (out : List ℕ) → Happens s u → (came_by mark s u).link.out ≡ s.out ++ out → MarkFits mark s u
+    → MarkFits (cut_mark mark s u) s u
+cut_fits whole s u out happens is fits = whole_fits s u out happens is
+cut_fits (short_mark draws calls bytes) s u out happens is fits =
+    record { draws_made = fits.draws_made; calls_made = fits.calls_made; bytes_put = omega (arith, fits.bytes_put) }
+cut_fits (unticked keys) s u out happens is fits = whole_fits s u out happens is
+
 took_cut : (mark : Mark) (o : Outcome) (bytes : List ℕ) (core : Phase) (hub : PlainHub MemKeeper) (drawn : ℕ) (jobs : JobList) (out : List ℕ) (l : GrandLink) (w : Grand)
     → TookPiece mark o bytes core hub drawn jobs out l w → TookPiece (cut_mark mark (serving_at l w) (served bytes l w)) short bytes core hub drawn jobs [] l w
 took_cut mark o bytes core hub drawn jobs out l w took =
@@ -94,6 +114,7 @@ took_cut mark o bytes core hub drawn jobs out l w took =
       moved = cut_moved mark bytes s u;
       goes = tt {0};
       whole = took.whole;
+      fits = cut_fits mark s u out took.whole took.serves.written took.fits;
     }
 
 -- ---- the bytes are exchanged
@@ -161,7 +182,7 @@ delivers_goes s new spot o bytes goes less moment receives w f stands found goin
     let r = receives link.0 link.1 in
     let own = link_of s.server spot w f link.0 stands.server found link.1 in
     let t = r.2 w f stands found own.end (continues_at s spot w f bytes stands found going next) in
-    (t.0, sym t.1.took.moved, goes_then s new spot link.0 r.0 o t.0 bytes w f goes stands found link.1 going next moment r.1 t.1)
+    (t.0, sym t.1.took.moved, goes_then s new spot link.0 r.0 o t.0 bytes w f goes stands found link.1 going next moment r.1 t.1, t.1.took.fits)
 
 pub delivers_ends : (s mid new : GrandWorld) (spot : Spot) (o : Outcome) (bytes : List ℕ) → is_end o ≡ true → spot.served < length s.server.links → new.moment ≡ s.moment
     → ReceivesAt spot o bytes s mid → LeavesAt spot.served s.moment mid.server new.server → new.clients ≡ mid.clients → DeliversAt spot (moved_to bytes o) bytes s new
@@ -170,4 +191,4 @@ delivers_ends s mid new spot o bytes ends less moment receives leaves kept w f s
     let r = receives link.0 link.1 in
     let own = link_of s.server spot w f link.0 stands.server found link.1 in
     let t = r.2 w f stands found own.end (continues_at s spot w f bytes stands found going next) in
-    (t.0, sym t.1.took.moved, ends_then s mid new spot link.0 r.0 o t.0 bytes w f ends stands found link.1 going next moment r.1 t.1 leaves kept)
+    (t.0, sym t.1.took.moved, ends_then s mid new spot link.0 r.0 o t.0 bytes w f ends stands found link.1 going next moment r.1 t.1 leaves kept, t.1.took.fits)

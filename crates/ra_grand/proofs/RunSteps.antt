@@ -6,6 +6,7 @@ use Rattle.ra_script.specs.declared.grand_line.GrandEvent.{GrandEvent}
 use Rattle.ra_grand.specs.declared.effect.GrandEffect.{GrandEffect}
 use Rattle.ra_grand.specs.declared.fault.GrandFault.{GrandFault}
 use Rattle.ra_grand.specs.declared.world.GrandWorld.{GrandWorld}
+use Rattle.ra_grand.specs.Fits.{EventFits, RunFits}
 use Rattle.ra_grand.specs.GrandEvents.{Ran, WasRefused}
 use Rattle.ra_grand.specs.GrandRefusals.{Refusal, refusal}
 use Rattle.ra_grand.specs.GrandRuns.{happens, unless, after, run, is_accepted}
@@ -19,10 +20,11 @@ pub record RunsTo (events : List GrandEvent) (at : ℕ) (world : GrandWorld) : T
   pub entries : List Entry
   pub events_are : map (λ (e : Entry). e.event) entries ≡ take at events
   pub accepted : is_accepted entries new_grand ≡ true
+  pub fits : RunFits entries new_grand
   pub stands : StandsForGrand world (run entries new_grand)
 
 pub runs_at_start : (events : List GrandEvent) (world : GrandWorld) → StandsForGrand world new_grand → RunsTo events 0 world
-runs_at_start events world stands = record { entries = []; events_are = refl; accepted = refl; stands = stands }
+runs_at_start events world stands = record { entries = []; events_are = refl; accepted = refl; fits = tt {0}; stands = stands }
 
 run_more : (entries : List Entry) (e : Entry) (w : Grand) → run (entries ++ e ∷ []) w ≡ after e (run entries w)
 run_more [] e w = refl
@@ -37,6 +39,10 @@ accepted_more (x ∷ xs) e w ok none =
     both_of : (a b : Bool) → (a && b) ≡ true → (a ≡ true) × (b ≡ true)
     both_of true b h = (refl, h)
     both_of false b h = absurd cc
+
+fits_more : (entries : List Entry) (e : Entry) (w : Grand) → RunFits entries w → EventFits e.mark e.event (run entries w) → RunFits (entries ++ e ∷ []) w
+fits_more [] e w all one = (one, tt {0})
+fits_more (x ∷ xs) e w all one = (all.0, fits_more xs e (after x w) all.1 one)
 
 after_none : (e : Entry) (w : Grand) → refusal e.event w ≡ None → after e w ≡ happens e.mark e.event w
 after_none e w none = ap (λ (r : Option Refusal). unless r (happens e.mark e.event w) w) none
@@ -61,6 +67,7 @@ runs_on events at event answer world next less is so_far applies =
           ∙ ap (λ (es : List GrandEvent). es ++ event ∷ []) so_far.events_are
           ∙ sym (take_next events at event less is);
       accepted = accepted_more so_far.entries e new_grand so_far.accepted made.1;
+      fits = fits_more so_far.entries e new_grand so_far.fits made.4;
       stands = subst (λ (v : Grand). StandsForGrand next v) (sym (run_more so_far.entries e new_grand ∙ after_none e w made.1)) made.3;
     }
 
@@ -75,6 +82,7 @@ ran events at world most so_far = record {
   entries = so_far.entries;
   events_are = so_far.events_are ∙ all_taken events at most;
   accepted = so_far.accepted;
+  fits = so_far.fits;
   stands = so_far.stands;
 }
 
@@ -84,6 +92,7 @@ refused events at event fault world next less is so_far applies = record {
   entries = so_far.entries;
   events_are = so_far.events_are;
   accepted = so_far.accepted;
+  fits = so_far.fits;
   event = event;
   there = is_at events at event less is;
   cause = (applies (run so_far.entries new_grand) so_far.stands).0;

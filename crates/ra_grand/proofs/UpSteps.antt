@@ -10,6 +10,7 @@ use Rattle.ra_grand.specs.declared.fault.GrandFault.{GrandFault}
 use Rattle.ra_grand.specs.declared.fault.GrandFault.TheVariants as faults
 use Rattle.ra_grand.specs.declared.spot.Spot.{Spot}
 use Rattle.ra_grand.specs.declared.world.GrandWorld.{GrandWorld}
+use Rattle.ra_grand.specs.Fits.{MarkFits, MovesFit}
 use Rattle.ra_grand.specs.GrandClients.{GrandLink}
 use Rattle.ra_grand.specs.GrandEffects.{moved_by, moved_up}
 use Rattle.ra_grand.specs.GrandRefusals.{Refusal, link_over, of_link, if_over, if_unread}
@@ -18,7 +19,7 @@ use Rattle.ra_grand.specs.GrandStates.{StandsForGrand}
 use Rattle.ra_grand.specs.GrandViews.{IsCause, Answers, effect_of}
 use Rattle.ra_grand.specs.Grands.{Grand, Found, find_link, on_link}
 use Rattle.ra_grand.specs.Marks.{Mark, whole}
-use Rattle.ra_grand.specs.ServedLinks.{served, piece_came}
+use Rattle.ra_grand.specs.ServedLinks.{serving_at, served, piece_came}
 use Rattle.ra_grand.specs.Servings.{WaitsAt, DeliversAt}
 use Rattle.ra_grand.specs.ServerStates.{ServedState}
 use Rattle.ra_grand.specs.Spots.{FoundAt, IsSpot, Chooses}
@@ -68,7 +69,8 @@ waits_on link s spot b w less tells on stands found =
 abbrev Up : ℕ → Count → Result GrandEffect GrandFault → GrandWorld → Grand → Option Found → Type 0
 Up link count result new w found =
     (mark : Mark) × Answers result (of_link link (λ l. or_fault (if_over link l) (if_unread B count l)) found)
-    (moved_up mark (λ f. bytes_up count f.link) found w) (StandsForGrand new (on_link (λ f. piece_came mark (bytes_up count f.link) f) found w)) (StandsForGrand new w)
+    (moved_up mark (λ f. bytes_up count f.link) found w) (StandsForGrand new (on_link (λ f. piece_came mark (bytes_up count f.link) f) found w) × MovesFit mark (λ f. bytes_up count f.link) found w)
+    (StandsForGrand new w)
 
 pub up_refused : (link : ℕ) (count : Count) (fault : GrandFault) (s : GrandWorld) (w : Grand) → StandsForGrand s w → WaitsAt (Err fault) link w → Up link count (Err fault) s w (find_link link w)
 up_refused link count fault s w stands waits = (whole, (waits (if_unread B count), stands))
@@ -95,7 +97,10 @@ up_done link count bytes answer mid new spot w stands waits chosen delivers =
       (
         not_over link (if_unread B count) f waits.3 ∙ chose.0,
         d.1 ∙ ap (λ (b : List ℕ). moved_by d.0 b (served b f.link w)) chose.1,
-        subst (λ (b : List ℕ). StandsForGrand new (piece_came d.0 b f w)) chose.1 d.2,
+        (
+          subst (λ (b : List ℕ). StandsForGrand new (piece_came d.0 b f w)) chose.1 d.2,
+          subst (λ (b : List ℕ). MarkFits d.0 (serving_at f.link w) (served b f.link w)) chose.1 d.3,
+        ),
       ),
     )
 
@@ -103,7 +108,8 @@ up_done link count bytes answer mid new spot w stands waits chosen delivers =
 
 abbrev Idle : ℕ → Result GrandEffect GrandFault → GrandWorld → Grand → Option Found → Type 0
 Idle link result new w found =
-    (mark : Mark) × Answers result (of_link link (if_over link) found) (moved_up mark (λ f. []) found w) (StandsForGrand new (on_link (piece_came mark []) found w)) (StandsForGrand new w)
+    (mark : Mark) × Answers result (of_link link (if_over link) found) (moved_up mark (λ f. []) found w) (StandsForGrand new (on_link (piece_came mark []) found w) × MovesFit mark (λ f. []) found w)
+    (StandsForGrand new w)
 
 pub idle_refused : (link : ℕ) (fault : GrandFault) (s : GrandWorld) (w : Grand) → StandsForGrand s w → WaitsAt (Err fault) link w → Idle link (Err fault) s w (find_link link w)
 idle_refused link fault s w stands waits = (whole, (subst (λ (r : Option Refusal). IsCause fault r) (over_alone link (find_link link w)) (waits (λ l. None)), stands))
@@ -117,4 +123,4 @@ idle_done link answer s new spot w stands waits delivers =
     let f = waits.0 in
     let d = delivers w f stands waits.2 waits.3 (record { count = 0; is = refl }) in
     subst (λ (o : Option Found). Idle link (Ok answer) new w o) (sym waits.1)
-    (d.0, (ap (λ (b : Bool). fault_if b (link_over link)) waits.3, d.1, d.2))
+    (d.0, (ap (λ (b : Bool). fault_if b (link_over link)) waits.3, d.1, (d.2, d.3)))

@@ -5,6 +5,7 @@ use Rattle.ra_script.specs.GrandLines.{IsNoTunnel, IsMomentInRange, GrandEventFi
 use Rattle.ra_script.specs.declared.grand_line.GrandEvent.{GrandEvent}
 use Rattle.ra_grand.specs.declared.fault.GrandFault.{GrandFault}
 use Rattle.ra_grand.specs.declared.world.GrandWorld.{GrandWorld}
+use Rattle.ra_grand.specs.Fits.{RunFits}
 use Rattle.ra_grand.specs.GrandRefusals.{refusal}
 use Rattle.ra_grand.specs.GrandRuns.{run, is_accepted}
 use Rattle.ra_grand.specs.GrandStates.{StandsForGrand}
@@ -16,11 +17,12 @@ use Rattle.ra_grand.specs.Marks.{Entry}
 abbrev pub IsGrandEvent : GrandEvent → Type 0
 IsGrandEvent event = IsNoTunnel event × IsMomentInRange event × GrandEventFits event
 
--- These events were applied, each with its mark, and the world stands for the run.
+-- These events were applied, each with its mark, which fits the world before it, and the world stands for the run.
 pub record Ran (events : List GrandEvent) (world : GrandWorld) : Type 0 where
   pub entries : List Entry
   pub events_are : map (λ e. e.event) entries ≡ events
   pub accepted : is_accepted entries new_grand ≡ true
+  pub fits : RunFits entries new_grand
   pub stands : StandsForGrand world (run entries new_grand)
 
 -- the events before this place were applied, and the one there was refused
@@ -28,6 +30,7 @@ pub record WasRefused (events : List GrandEvent) (at : ℕ) (fault : GrandFault)
   pub entries : List Entry
   pub events_are : map (λ e. e.event) entries ≡ take at events
   pub accepted : is_accepted entries new_grand ≡ true
+  pub fits : RunFits entries new_grand
   pub event : GrandEvent
   pub there : slice_get events at ≡ Some event
   pub cause : IsCause fault (refusal event (run entries new_grand))

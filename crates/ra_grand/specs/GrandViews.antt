@@ -9,6 +9,7 @@ use Rattle.ra_grand.specs.declared.effect.GrandEffect.{GrandEffect}
 use Rattle.ra_grand.specs.declared.effect.GrandEffect.TheVariants as seen
 use Rattle.ra_grand.specs.declared.fault.GrandFault.{GrandFault}
 use Rattle.ra_grand.specs.declared.fault.GrandFault.TheVariants as faults
+use Rattle.ra_grand.specs.Fits.{EventFits}
 use Rattle.ra_grand.specs.GrandEffects.{Effect, done, made, acts, moved, broke, swept, issued, outcome, effect}
 use Rattle.ra_grand.specs.GrandRefusals.{Refusal, no_such_link, no_such_client, no_such_job, token_taken, not_dialling, link_over, too_many, of_session, refusal}
 use Rattle.ra_grand.specs.GrandRuns.{happens}
@@ -44,9 +45,9 @@ IsCause (faults.TooMany asked there) cause = cause ≡ Some (too_many asked ther
 IsCause (faults.Session fault) cause = (r : SessionRefusal) × IsRefusal fault (Some r) × (cause ≡ Some (of_session r))
 IsCause faults.NoMemory cause = Unit {0}
 
--- it was applied, or refused, and then all is as it was
+-- it was applied so far as a mark tells, which fits the world, or refused, and then all is as it was
 abbrev pub Applies : Result GrandEffect GrandFault → GrandEvent → Grand → (Grand → Type 0) → Type 0
-Applies (Ok answer) event w After = (mark : Mark) × (refusal event w ≡ None) × (effect_of answer ≡ effect mark event w) × After (happens mark event w)
+Applies (Ok answer) event w After = (mark : Mark) × (refusal event w ≡ None) × (effect_of answer ≡ effect mark event w) × After (happens mark event w) × EventFits mark event w
 Applies (Err fault) event w After = IsCause fault (refusal event w) × After w
 
 -- it goes on exactly where there is no cause, unless memory ran out

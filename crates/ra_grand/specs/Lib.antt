@@ -2,6 +2,7 @@ pub mod ClientLinks
 pub mod ClientStates
 pub mod Crowds
 pub mod Draws
+pub mod Fits
 pub mod GrandClients
 pub mod GrandEffects
 pub mod GrandEvents

@@ -17,6 +17,7 @@ use Rattle.ra_link.specs.declared.phase.Phase.{Phase}
 use Rattle.ra_link.specs.declared.phase.Phase.TheVariants as phases
 use Rattle.ra_opening.specs.Stands.{new_opening}
 use Rattle.ra_grand.specs.Draws.{draws_after}
+use Rattle.ra_grand.specs.Fits.{MarkFits}
 use Rattle.ra_grand.specs.GrandClients.{GrandLink}
 use Rattle.ra_grand.specs.GrandEffects.{moved_by}
 use Rattle.ra_grand.specs.GrandViews.{moved_to}
@@ -64,6 +65,7 @@ pub record TookPiece (mark : Mark) (outcome : Outcome) (bytes : List ℕ) (core 
   pub moved : moved_by mark bytes (served bytes l w) ≡ moved_to bytes outcome
   pub goes : Unless (is_end outcome) (GoesAs core (end_after bytes (draw_at l w) false (came_at mark bytes l w).link l.server))
   pub whole : Happens (serving_at l w) (served bytes l w)
+  pub fits : MarkFits mark (serving_at l w) (served bytes l w)
 
 -- what a piece makes of a link in memory
 abbrev pub Takes : ServedState → Outcome → List ℕ → ℕ → Phase → PlainHub MemKeeper → ℕ → JobList → PlainHub MemKeeper → ℕ → JobList → List ℕ → Type 0

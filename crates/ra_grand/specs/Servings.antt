@@ -9,6 +9,7 @@ use Rattle.ra_grand.specs.declared.fault.GrandFault.{GrandFault}
 use Rattle.ra_grand.specs.declared.spot.Spot.{Spot}
 use Rattle.ra_grand.specs.declared.world.GrandWorld.{GrandWorld}
 use Rattle.ra_grand.specs.Crowds.{ClientsStand}
+use Rattle.ra_grand.specs.Fits.{MarkFits}
 use Rattle.ra_grand.specs.GrandClients.{GrandLink}
 use Rattle.ra_grand.specs.GrandEffects.{Effect, moved_by}
 use Rattle.ra_grand.specs.GrandRefusals.{Refusal, of_link, if_over}
@@ -17,7 +18,7 @@ use Rattle.ra_grand.specs.GrandStates.{StandsForGrand}
 use Rattle.ra_grand.specs.GrandViews.{IsCause}
 use Rattle.ra_grand.specs.Marks.{Mark}
 use Rattle.ra_grand.specs.Pieces.{Continues, TookPiece, exchanged}
-use Rattle.ra_grand.specs.ServedLinks.{served, piece_came}
+use Rattle.ra_grand.specs.ServedLinks.{serving_at, served, piece_came}
 use Rattle.ra_grand.specs.ServerStates.{ServedState, IsEndOf}
 use Rattle.ra_grand.specs.Spots.{FoundAt}
 
@@ -58,3 +59,4 @@ abbrev pub DeliversAt : Spot → Effect → List ℕ → GrandWorld → GrandWor
 DeliversAt spot effect bytes old new =
     (w : Grand) (f : Found) → StandsForGrand old w → FoundAt spot w f → f.link.server.is_over ≡ false → IsNext bytes f.link
     → (mark : Mark) × (effect ≡ moved_by mark bytes (served bytes f.link w)) × StandsForGrand new (piece_came mark bytes f w)
+    × MarkFits mark (serving_at f.link w) (served bytes f.link w)

@@ -4,6 +4,7 @@ ghost use Rattle.ra_base.specs.declared.event.Side.TheVariants as sides;
 ghost use Rattle.ra_link.specs.Makes.{outcome_of};
 ghost use Rattle.ra_model.specs.Refusals.{or_fault};
 ghost use Rattle.ra_grand.specs.ClientLinks.{HasUnread};
+ghost use Rattle.ra_grand.specs.Fits.{MovesFit};
 ghost use Rattle.ra_grand.specs.Grands as grand;
 ghost use Rattle.ra_grand.specs.GrandEffects as effects;
 ghost use Rattle.ra_grand.specs.GrandRefusals as refusals;
@@ -94,7 +95,9 @@ impl GrandWorld {
         ensures { (w : grand.Grand) → StandsForGrand self.old w
             → (mark : Mark) × Answers result (refusals.of_link link (λ l. or_fault (refusals.if_over link l) (refusals.if_unread sides.B count l)) (grand.find_link link w))
             (effects.moved_up mark (λ f. bytes_up count f.link) (grand.find_link link w) w)
-            (StandsForGrand self.new (grand.on_link (λ f. piece_came mark (bytes_up count f.link) f) (grand.find_link link w) w)) (StandsForGrand self.new w) }
+            (StandsForGrand self.new (grand.on_link (λ f. piece_came mark (bytes_up count f.link) f) (grand.find_link link w) w)
+            × MovesFit mark (λ f. bytes_up count f.link) (grand.find_link link w) w)
+            (StandsForGrand self.new w) }
     {
         let spot = self.waiting(link)?;
         let bytes = self.bytes_of(spot, Side::B, count)?;
@@ -109,7 +112,8 @@ impl GrandWorld {
         ensures { (w : grand.Grand) → StandsForGrand self.old w
             → (mark : Mark) × Answers result (refusals.of_link link (refusals.if_over link) (grand.find_link link w))
             (effects.moved_up mark (λ f. []) (grand.find_link link w) w)
-            (StandsForGrand self.new (grand.on_link (piece_came mark []) (grand.find_link link w) w)) (StandsForGrand self.new w) }
+            (StandsForGrand self.new (grand.on_link (piece_came mark []) (grand.find_link link w) w) × MovesFit mark (λ f. []) (grand.find_link link w) w)
+            (StandsForGrand self.new w) }
     {
         let spot = self.waiting(link)?;
         match ServerSettings::new(self.alloc) {
