@@ -107,11 +107,11 @@ keeps_down count w keeps f here =
     keeps
 
 -- a link that is not over
-not_over : (b : Bool) (r : Refusal) (next : Option Refusal) → or_fault (fault_if b r) next ≡ None → b ≡ false
+pub not_over : (b : Bool) (r : Refusal) (next : Option Refusal) → or_fault (fault_if b r) next ≡ None → b ≡ false
 not_over true r next none = absurd cc
 not_over false r next none = refl
 
-not_over_at : (b : Bool) (r : Refusal) → fault_if b r ≡ None → b ≡ false
+pub not_over_at : (b : Bool) (r : Refusal) → fault_if b r ≡ None → b ≡ false
 not_over_at true r none = absurd cc
 not_over_at false r none = refl
 

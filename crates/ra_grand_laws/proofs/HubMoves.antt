@@ -97,7 +97,7 @@ pub record HubCalls (owner : Key) (h k : Hub) : Type 0 where
   pub kept : IsKept call
   pub moves : HubMoves owner (option_map call (h.session owner)) h k
 
-lost_by : (owner : Key) (epoch now : ℕ) (o : Option Session) (h : Hub) → h.session owner ≡ o
+pub lost_by : (owner : Key) (epoch now : ℕ) (o : Option Session) (h : Hub) → h.session owner ≡ o
     → HubMoves owner (option_map (lose_session epoch) o) h (on_session o (λ (x : Session). seat_lost (seat_at owner epoch) now x h) h)
 unfolding seat_lost
 lost_by owner epoch now None h is = moves_itself owner None h is
@@ -116,7 +116,7 @@ ended_by : (b : Bool) (owner : Key) (cause : Cause) (s : Session) (h : Hub) → 
 ended_by true owner cause s h is = session_moves owner (end_session cause s) h
 ended_by false owner cause s h is = moves_itself owner (Some s) h is
 
-closed_by : (owner : Key) (epoch : ℕ) (cause : Cause) (now : ℕ) (o : Option Session) (h : Hub) → h.session owner ≡ o
+pub closed_by : (owner : Key) (epoch : ℕ) (cause : Cause) (now : ℕ) (o : Option Session) (h : Hub) → h.session owner ≡ o
     → HubMoves owner (option_map (λ (x : Session). cond (closes epoch (row h owner)) (end_session cause x) x) o) h
     (on_session o (λ (x : Session). seat_closed (seat_at owner epoch) cause now x h) h)
 unfolding seat_closed
@@ -169,7 +169,7 @@ refused_hub owner reconnection now reason h is =
     }
 
 pub record HubAdmits (owner : Key) (h k : Hub) : Type 0 where
-  pub becomes : Admits (h.session owner) (k.session owner)
+  pub becomes : Admits owner.kind (h.session owner) (k.session owner)
   pub epoch : epoch_of (row k owner) ≡ epoch_of (row h owner) + 1
   pub there : is_some (row k owner) ≡ true
   pub others : OthersStay owner h k
@@ -203,7 +203,7 @@ admitted_new owner now o h is none =
     let moves : HubMoves owner (Some s) h new = session_moves owner s h in
     let entry = own_entry h.registry owner now (next_epoch (row h owner)) false in
     record {
-      becomes = subst (λ (q : Option Session). Admits q (new.session owner)) (sym (is ∙ none)) (owner.kind, now, moves.becomes);
+      becomes = subst (λ (q : Option Session). Admits owner.kind q (new.session owner)) (sym (is ∙ none)) (now, moves.becomes);
       epoch = entry.0 ∙ next_is (row h owner);
       there = entry.1;
       others = others_trans owner h new _ moves.others (λ key apart. (refl, other_entry_agrees h.registry _ key apart));
@@ -215,7 +215,7 @@ admitted_again owner now None h is there = absurd (false≢true there)
 admitted_again owner now (Some s) h is there =
     let entry = own_entry h.registry owner now (next_epoch (row h owner)) true in
     record {
-      becomes = subst (λ (q : Option Session). Admits q (h.session owner)) (sym is) is;
+      becomes = subst (λ (q : Option Session). Admits owner.kind q (h.session owner)) (sym is) is;
       epoch = entry.0 ∙ next_is (row h owner);
       there = entry.1;
       others = λ key apart. (refl, other_entry_agrees h.registry _ key apart);

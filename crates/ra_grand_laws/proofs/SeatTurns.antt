@@ -96,7 +96,7 @@ first_none : (a b : Option Refusal) → or_fault a b ≡ None → a ≡ None
 first_none None b is = refl
 first_none (Some r) b is = absurd cc
 
-first_other : (a b : Option Refusal) (r : Refusal) → or_fault a b ≡ Some r → (a ≡ Some r → ⊥) → a ≡ None
+pub first_other : (a b : Option Refusal) (r : Refusal) → or_fault a b ≡ Some r → (a ≡ Some r → ⊥) → a ≡ None
 first_other None b r is never = refl
 first_other (Some q) b r is never = absurd (never is)
 
@@ -111,11 +111,11 @@ fed_never : (epoch : ℕ) (s : Session) (bad : BadMessage) (message : List ℕ) 
 unfolding feed_refusal
 fed_never epoch s bad message is = fed_by s.cause _ _ s.peer.endpoint.epoch bad message is
 
-made_admits : (epoch : ℕ) (piece : List ℕ) (now : ℕ) (s : Session) → turn_refusal epoch piece now s ≡ None → feed_refusal epoch s ≡ None
+pub made_admits : (epoch : ℕ) (piece : List ℕ) (now : ℕ) (s : Session) → turn_refusal epoch piece now s ≡ None → feed_refusal epoch s ≡ None
 unfolding turn_refusal
 made_admits epoch piece now s is = first_none (feed_refusal epoch s) (taken_refusal now (feed_session epoch piece now s)) is
 
-bad_admits : (epoch : ℕ) (piece : List ℕ) (now : ℕ) (s : Session) (bad : BadMessage) (message : List ℕ) → turn_refusal epoch piece now s ≡ Some (bad_ipc bad message)
+pub bad_admits : (epoch : ℕ) (piece : List ℕ) (now : ℕ) (s : Session) (bad : BadMessage) (message : List ℕ) → turn_refusal epoch piece now s ≡ Some (bad_ipc bad message)
     → feed_refusal epoch s ≡ None
 unfolding turn_refusal
 bad_admits epoch piece now s bad message is =
@@ -200,7 +200,7 @@ in_stands g h draw bytes piece after now epoch j s None here c = quiet_so g h dr
 in_stands g h draw bytes piece after now epoch j s (Some session) here c =
     by_stands g h draw bytes piece after now epoch j s session (turn_refusal epoch piece now session) here refl c
 
-turned_stands : (g : Ground) (h : Hub) (draw : ℕ → List ℕ) (bytes piece after : List ℕ) (now epoch j : ℕ) (s : Serving) → Comes g h draw bytes piece after epoch j s
+pub turned_stands : (g : Ground) (h : Hub) (draw : ℕ → List ℕ) (bytes piece after : List ℕ) (now epoch j : ℕ) (s : Serving) → Comes g h draw bytes piece after epoch j s
     → TurnStands g h draw after now epoch (turned (seat_at g.owner epoch) piece now s)
 unfolding turned
 turned_stands g h draw bytes piece after now epoch j s c = in_stands g h draw bytes piece after now epoch j s (s.hub.session g.owner) refl c

@@ -126,12 +126,12 @@ number_last xs x n is =
     ap (λ (k : ℕ). at_number (xs ++ x ∷ []) k) at ∙ get_last xs x
 
 -- the link with its welcome
-pub admitted_link : (g : Ground) (place now : ℕ) (s : Serving) → Serving
+unfoldable pub admitted_link : (g : Ground) (place now : ℕ) (s : Serving) → Serving
 admitted_link g place now s =
     welcomed (seat_at g.owner (next_epoch (row s.hub g.owner))) place
     (writes (acceptance_bytes g.owner.kind) (does (Admit (request_for g.owner (g.draws g.place).reconnection) now) s))
 
-admits_going : (g : Ground) (h : Hub) (draw : ℕ → List ℕ) (first bytes : List ℕ) (place now : ℕ) (s : Serving) → IsNew g h bytes s → HasAsked g first bytes place s
+pub admits_going : (g : Ground) (h : Hub) (draw : ℕ → List ℕ) (first bytes : List ℕ) (place now : ℕ) (s : Serving) → IsNew g h bytes s → HasAsked g first bytes place s
     → admission_refusal s.hub.registry (request_for g.owner (g.draws g.place).reconnection) now ≡ None → Going g h draw bytes false (admitted_link g place now s)
 unfolding admitted_link
 admits_going g h draw first bytes place now s new asks admits =
@@ -194,6 +194,20 @@ admits_going g h draw first bytes place now s new asks admits =
 
 -- ---- and the session begins there
 
+pub attaches_going : (g : Ground) (h : Hub) (draw : ℕ → List ℕ) (bytes : List ℕ) (now epoch : ℕ) (t : Serving) (session : Session) → t.hub.session g.owner ≡ Some session
+    → attach_refusal epoch session ≡ None → Going g h draw bytes false t → t.seat ≡ Some (seat_at g.owner epoch)
+    → ((u : Welcome) → t.welcome ≡ Some u → g.link.link.to_b.read + length bytes ≡ u.up) → Going g h draw bytes false (does (Attach (seat_at g.owner epoch) [] now) t)
+attaches_going g h draw bytes now epoch t session here is going seat all =
+    let l : GrandLink = link_after bytes false t g.link draw in
+    let f : Focus g (Some session) (row t.hub g.owner) l = subst (λ (q : Option Session). Focus g q (row t.hub g.owner) l) here going.focus in
+    let u : Serving = does (Attach (seat_at g.owner epoch) [] now) t in
+    let moves : HubMoves g.owner (Some (attach epoch [] now session)) t.hub u.hub = attached_hub g.owner epoch [] now session t.hub here in
+    record {
+      focus = focus_hub g (Some (attach epoch [] now session)) t.hub u.hub l moves (focus_attached g session (row t.hub g.owner) l f epoch now refl seat is all);
+      others = others_trans g.owner h t.hub u.hub going.others moves.others;
+      front = going.front;
+    }
+
 attached_stands : (g : Ground) (h : Hub) (draw : ℕ → List ℕ) (bytes : List ℕ) (now epoch : ℕ) (t : Serving) (o : Option Session) → t.hub.session g.owner ≡ o → Going g h draw bytes false t
     → t.end ≡ None → t.seat ≡ Some (seat_at g.owner epoch) → ((u : Welcome) → t.welcome ≡ Some u → g.link.link.to_b.read + length bytes ≡ u.up)
     → Stands g h draw bytes now (attached_in o (seat_at g.owner epoch) [] now t)
@@ -203,9 +217,6 @@ attached_stands g h draw bytes now epoch t (Some session) here going goes seat a
     l : GrandLink
     l = link_after bytes false t g.link draw
 
-    f : Focus g (Some session) (row t.hub g.owner) l
-    f = subst (λ (q : Option Session). Focus g q (row t.hub g.owner) l) here going.focus
-
     u : Serving
     u = does (Attach (seat_at g.owner epoch) [] now) t
 
@@ -214,13 +225,8 @@ attached_stands g h draw bytes now epoch t (Some session) here going goes seat a
         ends_so g h draw now t (refused_by refusal) bytes [] bytes going (subst (λ (q : Option Seat). IsOwn g.owner q) (sym seat) refl) (sym (append-nil bytes))
         (follows_nothing l.link.to_b going.focus.here.up)
     by None is =
-        let moves : HubMoves g.owner (Some (attach epoch [] now session)) t.hub u.hub = attached_hub g.owner epoch [] now session t.hub here in
-        let on : Going g h draw bytes false u = record {
-          focus = focus_hub g (Some (attach epoch [] now session)) t.hub u.hub l moves (focus_attached g session (row t.hub g.owner) l f epoch now refl seat is all);
-          others = others_trans g.owner h t.hub u.hub going.others moves.others;
-          front = going.front;
-        } in
-        served_stands (turns_for []) g h draw bytes [] bytes now epoch 0 u (comes_nothing g h draw bytes epoch u on goes seat)
+        served_stands (turns_for []) g h draw bytes [] bytes now epoch 0 u
+        (comes_nothing g h draw bytes epoch u (attaches_going g h draw bytes now epoch t session here is going seat all) goes seat)
 
 begins_so : (g : Ground) (h : Hub) (draw : ℕ → List ℕ) (bytes : List ℕ) (now epoch : ℕ) (t : Serving) → Going g h draw bytes false t → t.end ≡ None
     → t.seat ≡ Some (seat_at g.owner epoch) → ((u : Welcome) → t.welcome ≡ Some u → g.link.link.to_b.read + length bytes ≡ u.up)

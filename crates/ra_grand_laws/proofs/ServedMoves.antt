@@ -127,9 +127,9 @@ focus_lifted g s t o l after f w peer x y first second there same view server wh
 -- ---- one more
 
 -- the session that a key has once it was admitted: a new one, where it had none
-abbrev pub Admits : Option Session → Option Session → Type 0
-Admits None t = (kind : Kind) × (now : ℕ) × (t ≡ Some (serving kind now))
-Admits (Some s) t = t ≡ Some s
+abbrev pub Admits : Kind → Option Session → Option Session → Type 0
+Admits kind None t = (now : ℕ) × (t ≡ Some (serving kind now))
+Admits kind (Some s) t = t ≡ Some s
 
 record NewEnd (g : Ground) (t : Option Session) (present : ℕ) (lifted : List Link) : Type 0 where
   peer : Peer
@@ -138,9 +138,9 @@ record NewEnd (g : Ground) (t : Option Session) (present : ℕ) (lifted : List L
   whole : (x : Link) → at_number lifted present ≡ Some x → WritesWhole peer x
   there : is_some t ≡ true
 
-new_end : (g : Ground) (s t : Option Session) (o : Option Row) (l : GrandLink) (f : Focus g s o l) (frames : List Frame) (cut : Bool) → Admits s t
+new_end : (g : Ground) (s t : Option Session) (o : Option Row) (l : GrandLink) (f : Focus g s o l) (frames : List Frame) (cut : Bool) → Admits g.owner.kind s t
     → ((said : List (List ℕ)) (received : ℕ) → AllHonest 0 said received frames) → NewEnd g t f.present (f.lifted ++ link_with A frames cut ∷ [])
-new_end g None t o l f frames cut (kind, now, is) honest =
+new_end g None t o l f frames cut (now, is) honest =
     let fresh : Peer = new_peer 0 now false in
     let v : View 0 A g.number f.present g.near fresh f.lifted = view_anew 0 A g.number f.present g.near f.peer f.lifted f.view 0 f.server.0 now false f.server.1 in
     record {
@@ -165,7 +165,7 @@ welcome_within g s o l f n k v ne is at =
     at_number_within f.lifted v.epoch has.lift has.is_at
 
 pub focus_admitted : (g : Ground) (s t : Option Session) (o p : Option Row) (l after : GrandLink) (f : Focus g s o l) (w : Welcome) (frames : List Frame) (cut : Bool)
-    → after.server.welcome ≡ Some w → w.epoch ≡ epoch_of o + 1 → epoch_of p ≡ w.epoch → is_some p ≡ true → Admits s t
+    → after.server.welcome ≡ Some w → w.epoch ≡ epoch_of o + 1 → epoch_of p ≡ w.epoch → is_some p ≡ true → Admits g.owner.kind s t
     → ((said : List (List ℕ)) (received : ℕ) → AllHonest 0 said received frames)
     → LinkKeeps g.owner (g.draws g.place) (f.lifted ++ link_with A frames cut ∷ []) f.present after → StaysBelow g.link after → Focus g t p after
 focus_admitted g s t o p l after f w frames cut there next is_next row admits honest here stays =

@@ -71,21 +71,21 @@ pub record IsShaking (g : Ground) (h : Hub) (bytes : List ℕ) (s : Serving) : T
   pub follows : Follows bytes g.link.link.to_b
 
 -- what was read of it is a front of all that the client writes
-record Fronts (g : Ground) (bytes : List ℕ) : Type 0 where
-  theirs : List ℕ
-  rest : List ℕ
-  all : g.link.link.to_b.written ++ rest ≡ client_text g.owner (g.draws g.place).reconnection (g.draws g.place).key (g.draws g.place).own theirs
-  text : g.link.server.seen ++ bytes ≡ take (g.link.link.to_b.read + length bytes) g.link.link.to_b.written
-  left : List ℕ
-  front : (g.link.server.seen ++ bytes) ++ left ≡ client_text g.owner (g.draws g.place).reconnection (g.draws g.place).key (g.draws g.place).own theirs
-  before : List ℕ
-  seen : g.link.server.seen ++ before ≡ client_text g.owner (g.draws g.place).reconnection (g.draws g.place).key (g.draws g.place).own theirs
+pub record Fronts (g : Ground) (bytes : List ℕ) : Type 0 where
+  pub theirs : List ℕ
+  pub rest : List ℕ
+  pub all : g.link.link.to_b.written ++ rest ≡ client_text g.owner (g.draws g.place).reconnection (g.draws g.place).key (g.draws g.place).own theirs
+  pub text : g.link.server.seen ++ bytes ≡ take (g.link.link.to_b.read + length bytes) g.link.link.to_b.written
+  pub left : List ℕ
+  pub front : (g.link.server.seen ++ bytes) ++ left ≡ client_text g.owner (g.draws g.place).reconnection (g.draws g.place).key (g.draws g.place).own theirs
+  pub before : List ℕ
+  pub seen : g.link.server.seen ++ before ≡ client_text g.owner (g.draws g.place).reconnection (g.draws g.place).key (g.draws g.place).own theirs
 
 opening_was : (g : Ground) (h : Hub) (bytes : List ℕ) (s : Serving) → IsShaking g h bytes s → IsOpening g.link.server
 opening_was g h bytes s x =
     opening_so g.owner x.focus.lifted x.focus.present g.link g.link.server.is_over g.link.server.seat x.over x.none x.focus.here.end
 
-fronts : (g : Ground) (h : Hub) (bytes : List ℕ) (s : Serving) → IsShaking g h bytes s → Fronts g bytes
+pub fronts : (g : Ground) (h : Hub) (bytes : List ℕ) (s : Serving) → IsShaking g h bytes s → Fronts g bytes
 fronts g h bytes s x =
     let d : Drawn = g.draws g.place in
     let has : HasWelcome g.owner d x.focus.lifted g.link None =
@@ -109,7 +109,7 @@ fronts g h bytes s x =
 abbrev pub opened_now : Ground → (ℕ → List ℕ) → List ℕ → Opened
 opened_now g next bytes = opened (grounds (own_then g.link.server.drawn next)) g.link.server.head (g.link.server.seen ++ bytes)
 
-abbrev first_draw : Ground → (ℕ → List ℕ) → List ℕ
+abbrev pub first_draw : Ground → (ℕ → List ℕ) → List ℕ
 first_draw g next = own_then g.link.server.drawn next 0
 
 -- it depends on the first draw alone
@@ -122,7 +122,7 @@ opened_alone g h next bytes s x =
     ≡ opened (grounds (λ n. first_draw g next)) head (g.link.server.seen ++ bytes)) (sym x.focus.here.head)
     (draws g.owner d.reconnection d.key d.own b.theirs (own_then g.link.server.drawn next) (g.link.server.seen ++ bytes) b.left x.kind b.front)
 
-opens_now : (g : Ground) (h : Hub) (next : ℕ → List ℕ) (bytes : List ℕ) (s : Serving) (x : IsShaking g h bytes s)
+pub opens_now : (g : Ground) (h : Hub) (next : ℕ → List ℕ) (bytes : List ℕ) (s : Serving) (x : IsShaking g h bytes s)
     → OpensAt g.owner (g.draws g.place).reconnection (g.draws g.place).key (g.draws g.place).own (fronts g h bytes s x).theirs (first_draw g next) (g.link.server.seen ++ bytes)
     (opened_now g next bytes).stage (opened_now g next bytes)
 opens_now g h next bytes s x =
@@ -178,7 +178,7 @@ grows_out g h next bytes s x =
 abbrev pub come : Ground → (ℕ → List ℕ) → List ℕ → Serving → Serving
 come g next bytes s = record s { out = (opened_now g next bytes).out; drawn = (opened_now g next bytes).drawn }
 
-new_now : (g : Ground) (h : Hub) (next : ℕ → List ℕ) (bytes : List ℕ) (s : Serving) → IsShaking g h bytes s → IsNew g h bytes (come g next bytes s)
+pub new_now : (g : Ground) (h : Hub) (next : ℕ → List ℕ) (bytes : List ℕ) (s : Serving) → IsShaking g h bytes s → IsNew g h bytes (come g next bytes s)
 new_now g h next bytes s x =
     let none : g.link.server.welcome ≡ None = (opening_was g h bytes s x).welcome in
     let grows = grows_out g h next bytes s x in
@@ -243,7 +243,7 @@ speaks_nothing owner key own theirs out none =
 
 -- ---- the client has asked
 
-asked_now : (g : Ground) (h : Hub) (next : ℕ → List ℕ) (bytes : List ℕ) (s : Serving) (x : IsShaking g h bytes s) (place : ℕ)
+pub asked_now : (g : Ground) (h : Hub) (next : ℕ → List ℕ) (bytes : List ℕ) (s : Serving) (x : IsShaking g h bytes s) (place : ℕ)
     → g.link.server.seen ++ bytes ≡ client_text g.owner (g.draws g.place).reconnection (g.draws g.place).key (g.draws g.place).own (fronts g h bytes s x).theirs
     → place ≡ length (g.link.server.seen ++ bytes) → (opened_now g next bytes).out ≡ greeting (g.draws g.place).key (first_draw g next) (made_text (g.draws g.place).own)
     → HasAsked g (first_draw g next) bytes place (come g next bytes s)

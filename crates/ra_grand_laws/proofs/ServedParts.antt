@@ -22,7 +22,7 @@ use Rattle.ra_grand.specs.ServedLinks.{draw_at, serving_at, served, came_whole, 
 use Rattle.ra_grand.specs.SetUps.{settings_for, request_head, grounds}
 use Rattle.ra_grand_laws.specs.Parts.{EndStands, IsSeated, PartHolds, WorldKeeps}
 use Rattle.ra_grand_laws.proofs.HubMoves.{IsOwn, others_itself}
-use Rattle.ra_grand_laws.proofs.SeatTurns.{served_stands}
+use Rattle.ra_grand_laws.proofs.SeatTurns.{Comes, served_stands}
 use Rattle.ra_grand_laws.proofs.ServedFocus.{Ground, Focus, ground_of, focus, unfocus}
 use Rattle.ra_grand_laws.proofs.ServedMoves.{focus_moved}
 use Rattle.ra_grand_laws.proofs.ServedOpenings.{shaking_stands}
@@ -42,13 +42,13 @@ pub record IsFound (n m : ℕ) (f : Found) (w : Grand) : Type 0 where
   pub link : slice_get f.client.links m ≡ Some f.link
   pub over : f.link.server.is_over ≡ false
 
-abbrev part_at : (n m : ℕ) (f : Found) (w : Grand) → IsFound n m f w → PartHolds (w.hub.session f.client.key) (row w.hub f.client.key) f.client
+abbrev pub part_at : (n m : ℕ) (f : Found) (w : Grand) → IsFound n m f w → PartHolds (w.hub.session f.client.key) (row w.hub f.client.key) f.client
 part_at n m f w is = is.keeps.parts n f.client is.client
 
-abbrev ground_at : (n m : ℕ) (f : Found) (w : Grand) → IsFound n m f w → Ground
+abbrev pub ground_at : (n m : ℕ) (f : Found) (w : Grand) → IsFound n m f w → Ground
 ground_at n m f w is = ground_of (w.hub.session f.client.key) (row w.hub f.client.key) f.client (part_at n m f w is) m f.link
 
-focus_at : (n m : ℕ) (f : Found) (w : Grand) (is : IsFound n m f w) → Focus (ground_at n m f w is) (w.hub.session f.client.key) (row w.hub f.client.key) f.link
+pub focus_at : (n m : ℕ) (f : Found) (w : Grand) (is : IsFound n m f w) → Focus (ground_at n m f w is) (w.hub.session f.client.key) (row w.hub f.client.key) f.link
 focus_at n m f w is = focus (w.hub.session f.client.key) (row w.hub f.client.key) f.client (part_at n m f w is) m f.link is.link
 
 -- the world, once the link was served so
@@ -67,7 +67,7 @@ changes_by bytes over u n m f w is going =
 
 -- ---- it is left
 
-own_seat : (owner : Key) (lifted : List Link) (present : ℕ) (l : GrandLink) (over : Bool) (o : Option Seat) → over ≡ false → EndStands owner lifted present l over o → IsOwn owner o
+pub own_seat : (owner : Key) (lifted : List Link) (present : ℕ) (l : GrandLink) (over : Bool) (o : Option Seat) → over ≡ false → EndStands owner lifted present l over o → IsOwn owner o
 own_seat owner lifted present l over None is stands = tt
 own_seat owner lifted present l over (Some seat) is stands =
     let seated : IsSeated owner lifted present l seat = subst (λ (b : Bool). EndStands owner lifted present l b (Some seat)) is stands in
@@ -90,7 +90,7 @@ left_changes n m f w keeps client_number link_number client link over =
 -- ---- bytes come
 
 -- the head asks for no frames of another kind
-plain : (owner : Key) (reconnection : Bool) (key seen bytes : List ℕ) (head : Head Upgrade HeadFault) → head ≡ request_head (settings_for owner) reconnection key
+pub plain : (owner : Key) (reconnection : Bool) (key seen bytes : List ℕ) (head : Head Upgrade HeadFault) → head ≡ request_head (settings_for owner) reconnection key
     → with_piece head seen bytes ≡ seen ++ bytes
 unfolding with_piece
 plain owner reconnection key seen bytes head is = subst (λ (h : Head Upgrade HeadFault). with_piece h seen bytes ≡ seen ++ bytes) (sym is) refl
@@ -123,23 +123,29 @@ start g w draw epoch x over at =
       front = record { rest = []; same = sym (append-nil g.link.server.out) };
     }
 
-seat_so : (g : Ground) (w : Grand) (bytes : List ℕ) (k epoch : ℕ) (x : Focus g (w.hub.session g.owner) (row w.hub g.owner) g.link) → g.link.server.is_over ≡ false
+pub seat_comes : (g : Ground) (w : Grand) (bytes : List ℕ) (k epoch : ℕ) (x : Focus g (w.hub.session g.owner) (row w.hub g.owner) g.link) → g.link.server.is_over ≡ false
     → k ≤ length (readable B g.link.link) → bytes ≡ take k (readable B g.link.link) → g.link.server.seat ≡ Some (seat_at g.owner epoch)
-    → Stands g w.hub (draw_at g.link w) bytes w.now (served_by (turns_for bytes) (seat_at g.owner epoch) bytes w.now (serving_at g.link w))
-seat_so g w bytes k epoch x over fits is at =
+    → Comes g w.hub (draw_at g.link w) [] bytes bytes epoch k (serving_at g.link w)
+seat_comes g w bytes k epoch x over fits is at =
     let draw : ℕ → List ℕ = draw_at g.link w in
     let s : Serving = serving_at g.link w in
     let after : GrandLink = link_after [] false s g.link draw in
     let put : IsPut [] g.link after [] = put_first [] false s g.link draw [] (sym (append-nil g.link.server.out)) in
     let same : g.link.link ≡ after.link = (put_nothing g.link).link ∙ sym put.link in
-    served_stands (turns_for bytes) g w.hub draw [] bytes bytes w.now epoch k s (record {
+    record {
       going = start g w draw epoch x over at;
       goes_on = refl;
       seat = at;
       fits = subst (λ (l : Link). k ≤ length (readable B l)) same fits;
       is = subst (λ (l : Link). bytes ≡ take k (readable B l)) same is;
       grows = refl;
-    })
+    }
+
+seat_so : (g : Ground) (w : Grand) (bytes : List ℕ) (k epoch : ℕ) (x : Focus g (w.hub.session g.owner) (row w.hub g.owner) g.link) → g.link.server.is_over ≡ false
+    → k ≤ length (readable B g.link.link) → bytes ≡ take k (readable B g.link.link) → g.link.server.seat ≡ Some (seat_at g.owner epoch)
+    → Stands g w.hub (draw_at g.link w) bytes w.now (served_by (turns_for bytes) (seat_at g.owner epoch) bytes w.now (serving_at g.link w))
+seat_so g w bytes k epoch x over fits is at =
+    served_stands (turns_for bytes) g w.hub (draw_at g.link w) [] bytes bytes w.now epoch k (serving_at g.link w) (seat_comes g w bytes k epoch x over fits is at)
 
 piece_stands : (g : Ground) (w : Grand) (bytes : List ℕ) (k : ℕ) (o : Option Seat) → g.owner.kind ≢ Tunnel → Focus g (w.hub.session g.owner) (row w.hub g.owner) g.link → g.link.server.is_over ≡ false
     → k ≤ length (readable B g.link.link) → bytes ≡ take k (readable B g.link.link) → g.link.server.seat ≡ o

@@ -150,11 +150,11 @@ unfolding turn take_turn take_out turn_answer taken_answer
 turn_out epoch piece now s = out_or_none (take_in now (feed_session epoch piece now s)).peer.endpoint
 
 -- the session in its view, on the lifted link that is its present one
-record OnLift (g : Ground) (s : Session) (lifted : List Link) (n : ℕ) (x : Link) (epoch : ℕ) : Type 0 where
-  view : View 0 B n g.number s.peer g.near lifted
-  there : at_number lifted n ≡ Some x
-  whole : WritesWhole s.peer x
-  admits : feed_refusal epoch s ≡ None
+pub record OnLift (g : Ground) (s : Session) (lifted : List Link) (n : ℕ) (x : Link) (epoch : ℕ) : Type 0 where
+  pub view : View 0 B n g.number s.peer g.near lifted
+  pub there : at_number lifted n ≡ Some x
+  pub whole : WritesWhole s.peer x
+  pub admits : feed_refusal epoch s ≡ None
 
 nothing_put : (cut : Bool) (written out : List ℕ) → out ≡ [] → written ++ cond cut [] out ≡ written
 nothing_put true written out none = append-nil written
@@ -233,15 +233,15 @@ dropped_view g s lifted n x epoch piece j now on fits is = by (turn_out epoch pi
 
 -- ---- the link of the seat, in a turn
 
-record TurnsAt (g : Ground) (s : Session) (o : Option Row) (l : GrandLink) (f : Focus g (Some s) o l) (epoch : ℕ) (piece : List ℕ) (j : ℕ) : Type 0 where
-  own : Welcomed g (Some s) o l f epoch
-  on : OnLift g s f.lifted own.welcome.epoch own.has.lift epoch
-  fits : j ≤ length (readable B own.has.lift)
-  is : piece ≡ take j (readable B own.has.lift)
-  size : length piece ≡ j
-  read : own.has.lift.to_b.read + own.welcome.up ≡ l.link.to_b.read
+pub record TurnsAt (g : Ground) (s : Session) (o : Option Row) (l : GrandLink) (f : Focus g (Some s) o l) (epoch : ℕ) (piece : List ℕ) (j : ℕ) : Type 0 where
+  pub own : Welcomed g (Some s) o l f epoch
+  pub on : OnLift g s f.lifted own.welcome.epoch own.has.lift epoch
+  pub fits : j ≤ length (readable B own.has.lift)
+  pub is : piece ≡ take j (readable B own.has.lift)
+  pub size : length piece ≡ j
+  pub read : own.has.lift.to_b.read + own.welcome.up ≡ l.link.to_b.read
 
-turns_at : (g : Ground) (s : Session) (o : Option Row) (l : GrandLink) (f : Focus g (Some s) o l) (epoch : ℕ) (piece : List ℕ) (j : ℕ) → l.server.is_over ≡ false
+pub turns_at : (g : Ground) (s : Session) (o : Option Row) (l : GrandLink) (f : Focus g (Some s) o l) (epoch : ℕ) (piece : List ℕ) (j : ℕ) → l.server.is_over ≡ false
     → l.server.seat ≡ Some (seat_at g.owner epoch) → feed_refusal epoch s ≡ None → j ≤ length (readable B l.link) → piece ≡ take j (readable B l.link) → TurnsAt g s o l f epoch piece j
 turns_at g s o l f epoch piece j over at admits fits is =
     let own : Welcomed g (Some s) o l f epoch = welcomed_at g (Some s) o l f epoch over at in

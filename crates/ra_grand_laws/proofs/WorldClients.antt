@@ -54,23 +54,23 @@ free_by : (b : Bool) (m : ℕ) (o : Option ℕ) (P : Type 0) → (if b then Some
 free_by true m o P none more = absurd cc
 free_by false m o P none more = (refl, more none)
 
-free : (m : ℕ) (key : Key) (cs : List Client) → holder m key cs ≡ None → (n : ℕ) (c : Client) → slice_get cs n ≡ Some c → same_key key c.key ≡ false
+pub free : (m : ℕ) (key : Key) (cs : List Client) → holder m key cs ≡ None → (n : ℕ) (c : Client) → slice_get cs n ≡ Some c → same_key key c.key ≡ false
 free m key [] none n c is = none_there is
 free m key (x ∷ cs) none zero c is =
     subst (λ (y : Client). same_key key y.key ≡ false) (there_is is) (free_by (same_key key x.key) m (holder (m + 1) key cs) (Unit {0}) none (λ e. tt)).0
 free m key (x ∷ cs) none (suc n) c is =
     (free_by (same_key key x.key) m (holder (m + 1) key cs) (same_key key c.key ≡ false) none (λ e. free (m + 1) key cs e n c is)).1
 
-untaken : (o : Option ℕ) → option_map (λ n. token_taken n) o ≡ None → o ≡ None
+pub untaken : (o : Option ℕ) → option_map (λ n. token_taken n) o ≡ None → o ≡ None
 untaken None none = refl
 untaken (Some n) none = absurd cc
 
 -- what stands at a place of a list with one more: it was there, or is the new one
-data More {X : Type 0} (xs : List X) (new : X) (n : ℕ) (x : X) : Type 0 where
+pub data More {X : Type 0} (xs : List X) (new : X) (n : ℕ) (x : X) : Type 0 where
   old : slice_get xs n ≡ Some x → More xs new n x
   last : length xs ≡ n → new ≡ x → More xs new n x
 
-more_at : {X : Type 0} → (xs : List X) (new : X) (n : ℕ) (x : X) → slice_get (xs ++ new ∷ []) n ≡ Some x → More xs new n x
+pub more_at : {X : Type 0} → (xs : List X) (new : X) (n : ℕ) (x : X) → slice_get (xs ++ new ∷ []) n ≡ Some x → More xs new n x
 more_at [] new zero x is = last refl (there_is is)
 more_at [] new (suc n) x is = none_there is
 more_at (y ∷ ys) new zero x is = old is

@@ -2,6 +2,7 @@
 use Rattle.std.specs.Prelude.{◌≢◌, List, [], ◌∷◌, ⊤}
 use Rattle.ra_base.specs.TokenGrammar.{IsToken}
 use Rattle.ra_base.specs.declared.kind.Kind.TheVariants.{Tunnel}
+use Rattle.ra_script.specs.GrandLines.{GrandEventFits}
 use Rattle.ra_script.specs.declared.grand_line.GrandEvent.{GrandEvent}
 use Rattle.ra_script.specs.declared.grand_line.GrandEvent.TheVariants as events
 use Rattle.ra_grand.specs.Marks.{Mark, whole, short, unticked, Entry}
@@ -16,6 +17,16 @@ abbrev pub AreUnbroken : List Entry → Type 0
 AreUnbroken [] = ⊤
 AreUnbroken (entry ∷ entries) = IsUnbroken entry.mark × AreUnbroken entries
 
+-- nor did it in a sweep
+abbrev pub IsWhole : Mark → Type 0
+IsWhole whole = ⊤
+IsWhole (short draws calls bytes) = ⊥
+IsWhole (unticked keys) = ⊥
+
+abbrev pub AreWhole : List Entry → Type 0
+AreWhole [] = ⊤
+AreWhole (entry ∷ entries) = IsWhole entry.mark × AreWhole entries
+
 -- a client that is made has a token, and is no client of a tunnel
 abbrev pub HasKey : GrandEvent → Type 0
 HasKey (events.Client key) = IsToken key.token × (key.kind ≢ Tunnel)
@@ -24,3 +35,8 @@ HasKey _ = ⊤
 abbrev pub HaveKeys : List Entry → Type 0
 HaveKeys [] = ⊤
 HaveKeys (entry ∷ entries) = HasKey entry.event × HaveKeys entries
+
+-- what a call or a listener carries can be written
+abbrev pub HaveRequests : List Entry → Type 0
+HaveRequests [] = ⊤
+HaveRequests (entry ∷ entries) = GrandEventFits entry.event × HaveRequests entries

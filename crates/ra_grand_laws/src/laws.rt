@@ -1,8 +1,16 @@
 //! The laws.
-ghost use Rattle.std.specs.Prelude.{◌≡◌, ◌≢◌, ◌<◌, ℕ, Bool, List, [], ◌++◌, length, All, Option, Some, None, false};
+ghost use Rattle.std.specs.Prelude.{◌==◌, ◌≤◌, ◌≡◌, ◌≢◌, ◌<◌, ℕ, Bool, List, [], ◌++◌, length, All, Option, Some, None, false};
 ghost use Rattle.ra_base.specs.TokenGrammar.{IsToken};
 ghost use Rattle.ra_base.specs.declared.key.Key.{Key};
-ghost use Rattle.ra_base.specs.declared.kind.Kind.TheVariants.{Tunnel};
+ghost use Rattle.ra_base.specs.declared.key.Cause.TheVariants.{BadIpc};
+ghost use Rattle.ra_base.specs.declared.kind.Kind.TheVariants.{Management, Tunnel};
+ghost use Rattle.ra_ipc.specs.ChannelLaws.{outcome, settled_as};
+ghost use Rattle.ra_ipc.specs.Messages.{number_of};
+ghost use Rattle.ra_link.specs.LinkRuns.{End};
+ghost use Rattle.ra_grand.specs.GrandEffects.{effect, moved};
+ghost use Rattle.ra_grand.specs.GrandRefusals.{refusal};
+ghost use Rattle.ra_grand_laws.specs.GoodEnds.{IsGoodEnd};
+ghost use Rattle.ra_grand_laws.specs.Settling.{Settles};
 ghost use Rattle.ra_opening.specs.Openings.{opened};
 ghost use Rattle.ra_link.specs.LinkRuns.{Welcome};
 ghost use Rattle.ra_dial.specs.Handshakes.{looked_at, fed};
@@ -22,7 +30,11 @@ ghost use Rattle.ra_model.specs.Links.{at_number};
 ghost use Rattle.ra_model.specs.Pairs.{messages};
 ghost use Rattle.ra_grand_laws.specs.Ends.{BothHear, LinkHonest, HoldsLink, text_up, text_down, read_up, read_down};
 ghost use Rattle.ra_grand.specs.GrandRuns.{run};
-ghost use Rattle.ra_grand_laws.specs.Runs.{AreUnbroken, HaveKeys};
+ghost use Rattle.ra_grand_laws.specs.ChannelParts.{ChannelsKeep};
+ghost use Rattle.ra_grand_laws.specs.Outcomes.{settled, fired};
+ghost use Rattle.ra_grand_laws.specs.Isolation.{alone, view_of};
+ghost use Rattle.ra_grand_laws.specs.Parted.{SamePart};
+ghost use Rattle.ra_grand_laws.specs.Runs.{AreWhole, AreUnbroken, HaveKeys, HaveRequests};
 ghost use Rattle.ra_grand_laws.specs.Rising.{HubRises, ClientsRise};
 ghost use Rattle.ra_grand_laws.specs.Handshakes.{client_text, OpensAt, Speaks, ReadsHandshake, HasSaid, LooksTo};
 
@@ -102,4 +114,44 @@ pub fn rising()
         → ClientsRise (run entries new_grand) (run later (run entries new_grand)) }
     ensures sessions { (entries later : List Entry)
         → HubRises (run entries new_grand).hub (run later (run entries new_grand)).hub }
+{}
+
+/// Whatever others do, the part of a key is what the run of that part alone makes of what it sees.
+pub fn isolation()
+    ensures { (key : Key) (entries : List Entry) → AreWhole entries → HaveKeys entries
+        → SamePart key (run entries new_grand) (alone key (view_of key entries new_grand) new_grand) }
+{}
+
+/// In every run: what a client hands up is what a run of the channels at both ends hands up.
+pub fn channels()
+    ensures { (entries : List Entry) → AreUnbroken entries → HaveKeys entries → HaveRequests entries
+        → ChannelsKeep (run entries new_grand) (λ n. settled n entries new_grand) (λ n. fired n entries new_grand) }
+{}
+
+/// In such a run each call of a client of a management session settles at most once, by its own cancel or the first answer that was heard
+/// behind it; where there is a session, how its calls are answered and its listeners are handed events is as at the channels' two ends. No
+/// session, of whatever kind, ends for a bad message.
+pub fn settling()
+    ensures once { (entries : List Entry) (n : ℕ) (c : Client) → AreUnbroken entries → HaveKeys entries → HaveRequests entries
+        → at_number (run entries new_grand).clients n ≡ Some c → c.key.kind ≡ Management
+        → (i : ℕ) → number_of (λ s. s.0 == i) (settled n entries new_grand) ≤ 1 }
+    ensures own { (entries : List Entry) (n : ℕ) (c : Client) → AreUnbroken entries → HaveKeys entries → HaveRequests entries
+        → at_number (run entries new_grand).clients n ≡ Some c → c.key.kind ≡ Management
+        → (i : ℕ) → settled_as i (settled n entries new_grand) ≡ outcome i c.dialer.session.entries }
+    ensures settles { (entries : List Entry) (n : ℕ) (c : Client) (s : Session) → AreUnbroken entries → HaveKeys entries
+        → HaveRequests entries → at_number (run entries new_grand).clients n ≡ Some c → c.key.kind ≡ Management
+        → (run entries new_grand).hub.session c.key ≡ Some s
+        → Settles c.dialer.session s (settled n entries new_grand) (fired n entries new_grand) }
+    ensures client { (entries : List Entry) (n : ℕ) (c : Client) → AreUnbroken entries → HaveKeys entries → HaveRequests entries
+        → at_number (run entries new_grand).clients n ≡ Some c → c.dialer.session.cause ≢ Some BadIpc }
+    ensures server { (entries : List Entry) (n : ℕ) (c : Client) (s : Session) → AreUnbroken entries → HaveKeys entries
+        → HaveRequests entries → at_number (run entries new_grand).clients n ≡ Some c
+        → (run entries new_grand).hub.session c.key ≡ Some s → s.cause ≢ Some BadIpc }
+{}
+
+/// In such a run no link comes to its end at the server for a header that states too long a body, or for a bad message.
+pub fn ends()
+    ensures { (entries : List Entry) (entry : Entry) (bytes : List ℕ) (end : End) → AreUnbroken entries → HaveKeys entries
+        → HaveRequests entries → refusal entry.event (run entries new_grand) ≡ None
+        → effect entry.mark entry.event (run entries new_grand) ≡ moved bytes (Some end) → IsGoodEnd end }
 {}

@@ -1,0 +1,25 @@
+-- The channels of each world that a run reaches.
+use Rattle.std.proofs.Common.{◌≡◌, ℕ, zero, suc, Some, List}
+use Rattle.ra_base.specs.declared.kind.Kind.TheVariants.{Tunnel}
+use Rattle.ra_model.specs.Links.{at_number}
+use Rattle.ra_grand.specs.GrandClients.{Client}
+use Rattle.ra_grand.specs.GrandRuns.{run}
+use Rattle.ra_grand.specs.Grands.{Grand, new_grand}
+use Rattle.ra_grand.specs.Marks.{Entry}
+use Rattle.ra_grand_laws.specs.ChannelParts.{ChannelsKeep}
+use Rattle.ra_grand_laws.specs.Outcomes.{settled, fired}
+use Rattle.ra_grand_laws.specs.Parts.{WorldKeeps}
+use Rattle.ra_grand_laws.specs.Runs.{AreUnbroken, HaveKeys, HaveRequests}
+use Rattle.ra_grand_laws.proofs.ChannelFold.{channels_run}
+use Rattle.ra_grand_laws.proofs.Folding.{keeps_after, keeps_new}
+use Rattle.ra_grand_laws.proofs.Lists.{none_there}
+use Rattle.ra_grand_laws.proofs.PiecesKept.{pieces_keep}
+
+pub channels_reached : (entries : List Entry) → AreUnbroken entries → HaveKeys entries → HaveRequests entries
+    → ChannelsKeep (run entries new_grand) (λ n. settled n entries new_grand) (λ n. fired n entries new_grand)
+channels_reached entries unbroken keys requests = channels_run pieces_keep keeps_after keeps_new entries unbroken keys requests
+
+-- no client is one of a tunnel
+pub no_tunnel : (w : Grand) (n : ℕ) (c : Client) → WorldKeeps w → at_number w.clients n ≡ Some c → c.key.kind ≡ Tunnel → ⊥
+no_tunnel w zero c keeps is = none_there is
+no_tunnel w (suc n) c keeps is = (keeps.parts n c is).kind

@@ -1,0 +1,12 @@
+use Rattle.ra_grand.specs.GrandRuns.{run}
+use Rattle.ra_grand.specs.Grands.{new_grand}
+use Rattle.ra_grand_laws.specs.Outcomes.{settled, fired}
+use Rattle.ra_grand_laws.proofs.GoodEnds.{good_end}
+use Rattle.ra_grand_laws.proofs.Reached.{channels_reached}
+use Rattle.ra_grand_laws.proofs.Reaching.{reached}
+use Rattle.ra_grand_laws.proofs.laws.ends.Goals as goal
+
+pub returns : goal.returns
+returns c = λ entries entry bytes end unbroken keys requests none is.
+    good_end entry (run entries new_grand) (λ n. settled n entries new_grand) (λ n. fired n entries new_grand) bytes end none (reached entries unbroken keys)
+    (channels_reached entries unbroken keys requests) is
