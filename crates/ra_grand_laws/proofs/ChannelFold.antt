@@ -1,5 +1,5 @@
 -- Every event of a run goes on with what holds of the channels.
-use Rattle.std.proofs.Common.{◌≡◌, ℕ, suc, ◌≤◌, Bool, true, false, Option, Some, None, List, [], ◌∷◌, ◌++◌, length, refl, ap, sym, ◌∙◌, subst, append_assoc, arith}
+use Rattle.std.proofs.Common.{◌≡◌, ℕ, suc, ◌≤◌, Bool, true, false, Option, Some, None, List, [], ◌++◌, length, refl, ap, sym, ◌∙◌, subst, arith}
 use Rattle.std.specs.Prelude.{◌==◌, slice_get, take}
 use Rattle.std.proofs.lemmas.Bool.{cond_both, eqb-true}
 use Rattle.std.proofs.lemmas.List.{append-nil}
@@ -20,21 +20,21 @@ use Rattle.ra_script.specs.declared.grand_line.GrandEvent.{GrandEvent}
 use Rattle.ra_script.specs.declared.grand_line.GrandEvent.TheVariants as events
 use Rattle.ra_grand.specs.GrandClients.{GrandLink, Client}
 use Rattle.ra_grand.specs.GrandRefusals.{Refusal, link_over, of_link, of_client, unrefused, if_session, if_over, if_unread, if_not_dialling, refusal}
-use Rattle.ra_grand.specs.GrandRuns.{on_session, bytes_up, bytes_down, comes_down, cuts, happens, unless as kept_unless, after, run}
+use Rattle.ra_grand.specs.GrandRuns.{on_session, bytes_up, bytes_down, comes_down, cuts, happens, unless as kept_unless, after}
 use Rattle.ra_grand.specs.Grands.{Grand, Found, find_link, on_link, new_grand}
 use Rattle.ra_grand.specs.Marks.{Mark, whole, short, unticked, Entry}
 use Rattle.ra_grand.specs.ServedLinks.{piece_came, server_left}
 use Rattle.ra_grand_laws.specs.ChannelParts.{ChannelsKeep}
-use Rattle.ra_grand_laws.specs.Outcomes.{framed, settled_by, fired_by, unless, settled as settled_over, fired as fired_over}
+use Rattle.ra_grand_laws.specs.Outcomes.{framed, settled_by, fired_by, unless}
 use Rattle.ra_grand_laws.specs.Parts.{WorldKeeps}
-use Rattle.ra_grand_laws.specs.Runs.{IsUnbroken, AreUnbroken, HasKey, HaveKeys, HaveRequests}
+use Rattle.ra_grand_laws.specs.Runs.{IsUnbroken}
 use Rattle.ra_grand_laws.proofs.ChannelAsks.{call_stays, listen_stays, dispose_stays, say_stays}
 use Rattle.ra_grand_laws.proofs.ChannelEvents.{client_there, unrefused_by, for_number, dialer_quiet, asks_quiet, links_quiet, frame_handed, cancel_handed, channels_joins, found_here, put_quiet, down_quiet}
 use Rattle.ra_grand_laws.proofs.ChannelHubs.{channels_sweep, channels_work}
 use Rattle.ra_grand_laws.proofs.ChannelSides.{Stays}
 use Rattle.ra_grand_laws.proofs.ChannelSteps.{Settled, Fired, channels_same, channels_left}
 use Rattle.ra_grand_laws.proofs.Lists.{none_there, there_is}
-use Rattle.ra_grand_laws.proofs.Rising.{step_after, rows_new}
+use Rattle.ra_grand_laws.proofs.Rising.{step_after}
 use Rattle.ra_grand_laws.proofs.RisingHubs.{HaveRows}
 use Rattle.ra_grand_laws.proofs.WorldLinks.{IsHere, chosen}
 
@@ -44,9 +44,6 @@ use Rattle.ra_grand_laws.proofs.WorldLinks.{IsHere, chosen}
 abbrev pub PiecesKeep : Type 0
 PiecesKeep = (k : ℕ) (f : Found) (w : Grand) (settled : Settled) (fired : Fired) → WorldKeeps w → IsHere f w → f.link.server.is_over ≡ false
     → k ≤ length (readable B f.link.link) → ChannelsKeep w settled fired → ChannelsKeep (piece_came whole (take k (readable B f.link.link)) f w) settled fired
-
-abbrev pub EventsKeep : Type 0
-EventsKeep = (entry : Entry) (w : Grand) → IsUnbroken entry.mark → HasKey entry.event → WorldKeeps w → WorldKeeps (after entry w)
 
 -- a client that is not there has handed up nothing
 abbrev pub Unmade : Grand → Settled → Fired → Type 0
@@ -58,7 +55,7 @@ Unmade w settled fired = (n : ℕ) → slice_get w.clients n ≡ None → (settl
 abbrev With : GrandEvent → Grand → Grand → Settled → Fired → Type 0
 With event w v settled fired = ChannelsKeep v (λ n. settled n ++ settled_by n event w) (λ n. fired n ++ fired_by n event w)
 
-nothing_more : (w : Grand) (settled : Settled) (fired : Fired) → ChannelsKeep w settled fired → ChannelsKeep w (λ n. settled n ++ []) (λ n. fired n ++ [])
+pub nothing_more : (w : Grand) (settled : Settled) (fired : Fired) → ChannelsKeep w settled fired → ChannelsKeep w (λ n. settled n ++ []) (λ n. fired n ++ [])
 nothing_more w settled fired keep =
     channels_same w settled (λ n. settled n ++ []) fired (λ n. fired n ++ []) (λ n. sym (append-nil (settled n))) (λ n. sym (append-nil (fired n))) keep
 
@@ -238,7 +235,7 @@ was_none n entry w rows none = by (slice_get w.clients n) refl
     by None is = refl
     by (Some c) is = let d = (step_after entry w rows).clients (suc n) c is in none_there (sym none ∙ d.1)
 
-unmade_after : (entry : Entry) (w : Grand) (settled : Settled) (fired : Fired) → HaveRows w.hub → Unmade w settled fired
+pub unmade_after : (entry : Entry) (w : Grand) (settled : Settled) (fired : Fired) → HaveRows w.hub → Unmade w settled fired
     → Unmade (after entry w) (λ n. settled n ++ unless (refusal entry.event w) (settled_by n entry.event w))
     (λ n. fired n ++ unless (refusal entry.event w) (fired_by n entry.event w))
 unmade_after entry w settled fired rows unmade n none =
@@ -249,27 +246,7 @@ unmade_after entry w settled fired rows unmade n none =
       ap (λ (xs : List (ℕ × Tree)). fired (suc n) ++ xs) more.1 ∙ append-nil (fired (suc n)) ∙ old.1,
     )
 
--- ---- a run
+-- ---- the beginning
 
-channels_from : PiecesKeep → EventsKeep → (entries : List Entry) (w : Grand) (settled : Settled) (fired : Fired) → AreUnbroken entries → HaveKeys entries → HaveRequests entries
-    → HaveRows w.hub → WorldKeeps w → Unmade w settled fired → ChannelsKeep w settled fired
-    → ChannelsKeep (run entries w) (λ n. settled n ++ settled_over n entries w) (λ n. fired n ++ fired_over n entries w)
-channels_from pieces events_keep [] w settled fired unbroken keys requests rows keeps unmade keep = nothing_more w settled fired keep
-channels_from pieces events_keep (entry ∷ entries) w settled fired unbroken keys requests rows keeps unmade keep =
-    let v = after entry w in
-    let more : Settled = λ n. unless (refusal entry.event w) (settled_by n entry.event w) in
-    let new : Fired = λ n. unless (refusal entry.event w) (fired_by n entry.event w) in
-    channels_same (run entries v) (λ n. (settled n ++ more n) ++ settled_over n entries v) (λ n. settled n ++ (more n ++ settled_over n entries v))
-    (λ n. (fired n ++ new n) ++ fired_over n entries v) (λ n. fired n ++ (new n ++ fired_over n entries v))
-    (λ n. append_assoc (settled n) (more n) (settled_over n entries v)) (λ n. append_assoc (fired n) (new n) (fired_over n entries v))
-    (channels_from pieces events_keep entries v (λ n. settled n ++ more n) (λ n. fired n ++ new n) unbroken.1 keys.1 requests.1
-    (step_after entry w rows).hub.1 (events_keep entry w unbroken.0 keys.0 keeps) (unmade_after entry w settled fired rows unmade)
-    (channels_after pieces entry w settled fired unbroken.0 requests.0 keeps unmade keep))
-
-channels_begun : ChannelsKeep new_grand (λ n. []) (λ n. [])
+pub channels_begun : ChannelsKeep new_grand (λ n. []) (λ n. [])
 channels_begun = record { parts = λ n c is. none_there is; jobs = tt }
-
-pub channels_run : PiecesKeep → EventsKeep → WorldKeeps new_grand → (entries : List Entry) → AreUnbroken entries → HaveKeys entries → HaveRequests entries
-    → ChannelsKeep (run entries new_grand) (λ n. settled_over n entries new_grand) (λ n. fired_over n entries new_grand)
-channels_run pieces events_keep keeps entries unbroken keys requests =
-    channels_from pieces events_keep entries new_grand (λ n. []) (λ n. []) unbroken keys requests rows_new keeps (λ n none. (refl, refl)) channels_begun

@@ -162,7 +162,7 @@ lost_becomes seat now h (Some s) is key =
     becomes_at seat.key key s (lose_session seat.epoch s) h is
     (λ kind. becomes_mapped kind (Some s) (lose_session seat.epoch) (keeps_end_silent (lose_session seat.epoch) (λ x. silent_lose seat.epoch x)))
 
-left_becomes : (seat : Option Seat) (now : ℕ) (h : Hub) (key : Key) → Becomes key.kind (h.session key) ((hub_left seat now h).session key)
+pub left_becomes : (seat : Option Seat) (now : ℕ) (h : Hub) (key : Key) → Becomes key.kind (h.session key) ((hub_left seat now h).session key)
 unfolding event_done
 left_becomes None now h key = becomes_itself key.kind (h.session key) (h.session key) refl
 left_becomes (Some seat) now h key = lost_becomes seat now h (h.session seat.key) refl key

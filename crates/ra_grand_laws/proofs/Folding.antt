@@ -22,13 +22,13 @@ use Rattle.ra_script.specs.declared.grand_line.GrandEvent.{GrandEvent}
 use Rattle.ra_script.specs.declared.grand_line.GrandEvent.TheVariants as events
 use Rattle.ra_grand.specs.GrandClients.{Client, dialled, linked, asked}
 use Rattle.ra_grand.specs.GrandRefusals.{Refusal, not_dialling, link_over, of_client, if_over, if_unread, if_not_dialling, refusal}
-use Rattle.ra_grand.specs.GrandRuns.{on_dialer, links, bytes_up, bytes_down, takes, comes_down, cuts, happens, unless, after, run}
+use Rattle.ra_grand.specs.GrandRuns.{on_dialer, links, bytes_up, bytes_down, takes, comes_down, cuts, happens, unless, after}
 use Rattle.ra_grand.specs.Grands.{Grand, Found, with_client, with_link, new_grand}
 use Rattle.ra_grand.specs.Marks.{Mark, whole, short, unticked, Entry}
 use Rattle.ra_grand.specs.Reached.{BringsNothing}
 use Rattle.ra_grand.specs.ServedLinks.{piece_came, server_left}
 use Rattle.ra_grand_laws.specs.Parts.{PartHolds, WorldKeeps}
-use Rattle.ra_grand_laws.specs.Runs.{IsUnbroken, AreUnbroken, HasKey, HaveKeys}
+use Rattle.ra_grand_laws.specs.Runs.{IsUnbroken, HasKey}
 use Rattle.ra_grand_laws.proofs.ClientCuts.{part_cut}
 use Rattle.ra_grand_laws.proofs.ClientLinked.{part_linked, part_new}
 use Rattle.ra_grand_laws.proofs.ClientParts.{part_asked, part_dialled}
@@ -140,7 +140,7 @@ piece_by (unticked keys) bytes f w unbroken keeps = keeps
 
 -- ---- any event
 
-keeps_event : (mark : Mark) (event : GrandEvent) (w : Grand) → IsUnbroken mark → HasKey event → refusal event w ≡ None → WorldKeeps w → WorldKeeps (happens mark event w)
+pub keeps_event : (mark : Mark) (event : GrandEvent) (w : Grand) → IsUnbroken mark → HasKey event → refusal event w ≡ None → WorldKeeps w → WorldKeeps (happens mark event w)
 unfolding refusal happens
 keeps_event mark (events.At now) w unbroken key none keeps = record { parts = keeps.parts; keys = keeps.keys; unknown = keeps.unknown }
 keeps_event mark (events.Client k) w unbroken key none keeps = world_joins k w none (part_new k w.now key.0 key.1) keeps
@@ -181,18 +181,13 @@ keeps_event mark (events.Stop n) w unbroken key none keeps = keeps_dialer n dial
 
 -- ---- a run
 
-keeps_unless : (o : Option Refusal) (w v : Grand) → WorldKeeps w → (o ≡ None → WorldKeeps v) → WorldKeeps (unless o v w)
+pub keeps_unless : (o : Option Refusal) (w v : Grand) → WorldKeeps w → (o ≡ None → WorldKeeps v) → WorldKeeps (unless o v w)
 keeps_unless None w v keeps more = more refl
 keeps_unless (Some refused) w v keeps more = keeps
 
 pub keeps_after : (entry : Entry) (w : Grand) → IsUnbroken entry.mark → HasKey entry.event → WorldKeeps w → WorldKeeps (after entry w)
 keeps_after entry w unbroken key keeps =
     keeps_unless (refusal entry.event w) w (happens entry.mark entry.event w) keeps (λ none. keeps_event entry.mark entry.event w unbroken key none keeps)
-
-pub keeps_run : (entries : List Entry) (w : Grand) → AreUnbroken entries → HaveKeys entries → WorldKeeps w → WorldKeeps (run entries w)
-keeps_run [] w unbroken keys keeps = keeps
-keeps_run (entry ∷ entries) w unbroken keys keeps =
-    keeps_run entries (after entry w) unbroken.1 keys.1 (keeps_after entry w unbroken.0 keys.0 keeps)
 
 pub keeps_new : WorldKeeps new_grand
 unfolding row_of start_row

@@ -32,6 +32,8 @@ pub mod WorksFit
 pub mod ServedHearing
 pub mod ServedChannels
 pub mod ServedEnds
+pub mod ChannelFronts
+pub mod ShortChannels
 pub mod ClientSends
 pub mod ClientTexts
 pub mod ClientShakes
@@ -80,3 +82,12 @@ pub mod IsolatedSweeps
 pub mod IsolatedWork
 pub mod IsolatedRuns
 pub mod Reached
+pub mod ShortViews
+pub mod ShortSessions
+pub mod ShortLinks
+pub mod ShortRuns
+pub mod ShortTurns
+pub mod ShortAdmissions
+pub mod ShortOpenings
+pub mod ShortParts
+pub mod FittingRuns

@@ -9,15 +9,12 @@ use Rattle.ra_grand.specs.Marks.{Entry}
 use Rattle.ra_grand_laws.specs.ChannelParts.{ChannelsKeep}
 use Rattle.ra_grand_laws.specs.Outcomes.{settled, fired}
 use Rattle.ra_grand_laws.specs.Parts.{WorldKeeps}
-use Rattle.ra_grand_laws.specs.Runs.{AreUnbroken, HaveKeys, HaveRequests}
-use Rattle.ra_grand_laws.proofs.ChannelFold.{channels_run}
-use Rattle.ra_grand_laws.proofs.Folding.{keeps_after, keeps_new}
+use Rattle.ra_grand_laws.specs.Runs.{IsRun}
+use Rattle.ra_grand_laws.proofs.FittingRuns.{fits_run}
 use Rattle.ra_grand_laws.proofs.Lists.{none_there}
-use Rattle.ra_grand_laws.proofs.PiecesKept.{pieces_keep}
 
-pub channels_reached : (entries : List Entry) → AreUnbroken entries → HaveKeys entries → HaveRequests entries
-    → ChannelsKeep (run entries new_grand) (λ n. settled n entries new_grand) (λ n. fired n entries new_grand)
-channels_reached entries unbroken keys requests = channels_run pieces_keep keeps_after keeps_new entries unbroken keys requests
+pub channels_reached : (entries : List Entry) → IsRun entries → ChannelsKeep (run entries new_grand) (λ n. settled n entries new_grand) (λ n. fired n entries new_grand)
+channels_reached entries is = (fits_run entries is.fits is.keys is.requests).1
 
 -- no client is one of a tunnel
 pub no_tunnel : (w : Grand) (n : ℕ) (c : Client) → WorldKeeps w → at_number w.clients n ≡ Some c → c.key.kind ≡ Tunnel → ⊥

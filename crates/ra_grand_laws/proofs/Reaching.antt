@@ -16,13 +16,13 @@ use Rattle.ra_grand.specs.Grands.{Grand, new_grand}
 use Rattle.ra_grand.specs.Marks.{Entry}
 use Rattle.ra_grand_laws.specs.Ends.{BothHear, LinkHonest, HoldsLink, text_up, text_down, read_up, read_down}
 use Rattle.ra_grand_laws.specs.Parts.{EndStands, IsSeated, IsAttached, StageKeeps, PartHolds, WorldKeeps}
-use Rattle.ra_grand_laws.specs.Runs.{AreUnbroken, HaveKeys}
+use Rattle.ra_grand_laws.specs.Runs.{IsRun}
 use Rattle.ra_grand_laws.proofs.EndsOfParts.{both_hear, silent, link_honest, client_holds, server_holds}
-use Rattle.ra_grand_laws.proofs.Folding.{keeps_run, keeps_new}
+use Rattle.ra_grand_laws.proofs.FittingRuns.{fits_run}
 use Rattle.ra_grand_laws.proofs.Lists.{none_there, there_is}
 
-pub reached : (entries : List Entry) → AreUnbroken entries → HaveKeys entries → WorldKeeps (run entries new_grand)
-reached entries unbroken keys = keeps_run entries new_grand unbroken keys keeps_new
+pub reached : (entries : List Entry) → IsRun entries → WorldKeeps (run entries new_grand)
+reached entries is = (fits_run entries is.fits is.keys is.requests).0
 
 -- the part of a client by its number
 part_at : (w : Grand) (n : ℕ) (c : Client) (o : Option Session) → WorldKeeps w → at_number w.clients n ≡ Some c → w.hub.session c.key ≡ o → PartHolds o (row w.hub c.key) c

@@ -1,19 +1,23 @@
 -- Each client that an accepted run makes is one of a token, and of no tunnel, where all clients of its last world are.
-use Rattle.std.proofs.Common.{◌≡◌, ℕ, zero, suc, Bool, true, false, ◌&&◌, Option, Some, None, is_none, List, [], ◌∷◌, ◌++◌, length, refl, ap, ◌∙◌, subst}
+use Rattle.std.proofs.Common.{◌≡◌, ℕ, zero, suc, Bool, true, false, ◌&&◌, Option, Some, None, is_none, List, [], ◌∷◌, ◌++◌, length, map, refl, ap, sym, ◌∙◌, subst}
 use Rattle.std.specs.Prelude.{slice_get}
+use Rattle.std.specs.List.{AllByRecursion}
 use Rattle.ra_base.specs.TokenGrammar.{IsToken}
 use Rattle.ra_base.specs.declared.key.Key.{Key}
 use Rattle.ra_base.specs.declared.kind.Kind.TheVariants.{Tunnel}
 use Rattle.ra_model.specs.Links.{at_number}
+use Rattle.ra_script.specs.GrandLines.{GrandEventFits}
 use Rattle.ra_script.specs.declared.grand_line.GrandEvent.{GrandEvent}
 use Rattle.ra_script.specs.declared.grand_line.GrandEvent.TheVariants as events
+use Rattle.ra_grand.specs.declared.world.GrandWorld.{GrandWorld}
 use Rattle.ra_grand.specs.GrandClients.{Client, new_client}
+use Rattle.ra_grand.specs.GrandEvents.{IsGrandEvent, Ran}
 use Rattle.ra_grand.specs.GrandRefusals.{Refusal, refusal}
 use Rattle.ra_grand.specs.GrandRuns.{happens, unless, after, run, is_accepted}
 use Rattle.ra_grand.specs.Grands.{Grand, new_grand}
 use Rattle.ra_grand.specs.Marks.{Entry}
 use Rattle.ra_grand.specs.Reached.{ClientHolds, ClientsHold}
-use Rattle.ra_grand_laws.specs.Runs.{HasKey, HaveKeys}
+use Rattle.ra_grand_laws.specs.Runs.{HasKey, HaveKeys, HaveRequests, IsRun}
 use Rattle.ra_grand_laws.proofs.Lists.{none_there, there_is}
 use Rattle.ra_grand_laws.proofs.Rising.{WorldStep, step_run, step_after, rows_new}
 use Rattle.ra_grand_laws.proofs.RisingHubs.{HaveRows}
@@ -86,3 +90,24 @@ keys_from (entry ∷ entries) w rows accepted holds =
 
 pub run_keys : (entries : List Entry) → is_accepted entries new_grand ≡ true → ClientsHold (run entries new_grand).clients → HaveKeys entries
 run_keys entries accepted holds = keys_from entries new_grand rows_new accepted holds
+
+-- ---- what is asked for
+
+requests_of : (entries : List Entry) (event_list : List GrandEvent) → map (λ (e : Entry). e.event) entries ≡ event_list → AllByRecursion IsGrandEvent event_list → HaveRequests entries
+requests_of [] event_list same all = tt
+requests_of (entry ∷ entries) [] same all = absurd cc
+requests_of (entry ∷ entries) (e ∷ es) same all =
+    (subst (λ (x : GrandEvent). GrandEventFits x) (sym (first same)) all.0.2, requests_of entries es (rest same) all.1)
+  where
+    first : {x y : GrandEvent} → {xs ys : List GrandEvent} → x ∷ xs ≡ y ∷ ys → x ≡ y
+    first e = cc
+
+    rest : {x y : GrandEvent} → {xs ys : List GrandEvent} → x ∷ xs ≡ y ∷ ys → xs ≡ ys
+    rest e = cc
+
+pub accepted_run : (event_list : List GrandEvent) (world : GrandWorld) (ran : Ran event_list world) → AllByRecursion IsGrandEvent event_list → IsRun ran.entries
+accepted_run event_list world ran all = record {
+  fits = ran.fits;
+  keys = run_keys ran.entries ran.accepted ran.stands.holds;
+  requests = requests_of ran.entries event_list ran.events_are all;
+}

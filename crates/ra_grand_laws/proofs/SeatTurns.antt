@@ -45,7 +45,7 @@ pub record Comes (g : Ground) (h : Hub) (draw : ℕ → List ℕ) (bytes piece a
 stopped : (g : Ground) (h : Hub) (draw : ℕ → List ℕ) (bytes : List ℕ) (now epoch : ℕ) (s : Serving) → Stands g h draw bytes now s → TurnStands g h draw bytes now epoch (stops s)
 stopped g h draw bytes now epoch s stands = record { stands = stands; goes = λ again. absurd (false≢true again) }
 
-follows_piece : (g : Ground) (h : Hub) (draw : ℕ → List ℕ) (bytes piece after : List ℕ) (epoch j : ℕ) (s : Serving) → Comes g h draw bytes piece after epoch j s
+pub follows_piece : (g : Ground) (h : Hub) (draw : ℕ → List ℕ) (bytes piece after : List ℕ) (epoch j : ℕ) (s : Serving) → Comes g h draw bytes piece after epoch j s
     → Follows piece (link_after bytes false s g.link draw).link.to_b
 follows_piece g h draw bytes piece after epoch j s c = follows_read (link_after bytes false s g.link draw).link piece j c.going.focus.here.up c.is
 
@@ -126,7 +126,7 @@ more_begins out more front begins =
     record { rest = begins.rest ++ more; same = ap (λ (t : List ℕ). t ++ more) begins.same ∙ append_assoc front begins.rest more }
 
 -- the turn, and what it writes
-made_going : (g : Ground) (h : Hub) (draw : ℕ → List ℕ) (bytes piece after : List ℕ) (now epoch j : ℕ) (s : Serving) (session : Session) → s.hub.session g.owner ≡ Some session
+pub made_going : (g : Ground) (h : Hub) (draw : ℕ → List ℕ) (bytes piece after : List ℕ) (now epoch j : ℕ) (s : Serving) (session : Session) → s.hub.session g.owner ≡ Some session
     → turn_refusal epoch piece now session ≡ None → Comes g h draw bytes piece after epoch j s
     → Going g h draw after false (writes (turn_answer epoch piece now session).out (does (Turn (seat_at g.owner epoch) piece now) s))
 made_going g h draw bytes piece after now epoch j s session here admits c =
@@ -154,7 +154,7 @@ ended_stands g h draw bytes now epoch (Some cause) again t going goes_on seat =
 
 -- ---- a turn in which a bad message was heard
 
-spoiled_going : (g : Ground) (h : Hub) (draw : ℕ → List ℕ) (bytes piece after : List ℕ) (now epoch j : ℕ) (s : Serving) (session : Session) → s.hub.session g.owner ≡ Some session
+pub spoiled_going : (g : Ground) (h : Hub) (draw : ℕ → List ℕ) (bytes piece after : List ℕ) (now epoch j : ℕ) (s : Serving) (session : Session) → s.hub.session g.owner ≡ Some session
     → feed_refusal epoch session ≡ None → Comes g h draw bytes piece after epoch j s → Going g h draw after false (does (Turn (seat_at g.owner epoch) piece now) s)
 spoiled_going g h draw bytes piece after now epoch j s session here admits c =
     let t : Serving = does (Turn (seat_at g.owner epoch) piece now) s in

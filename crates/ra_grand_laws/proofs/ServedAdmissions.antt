@@ -87,7 +87,7 @@ pub record HasAsked (g : Ground) (first bytes : List ℕ) (place : ℕ) (s : Ser
   pub read : place ≡ g.link.link.to_b.read + length bytes
 
 -- the request is refused
-refuses_stands : (g : Ground) (h : Hub) (draw : ℕ → List ℕ) (first bytes : List ℕ) (place now : ℕ) (reason : Reason) (s : Serving) → IsNew g h bytes s → HasAsked g first bytes place s
+pub refuses_stands : (g : Ground) (h : Hub) (draw : ℕ → List ℕ) (first bytes : List ℕ) (place now : ℕ) (reason : Reason) (s : Serving) → IsNew g h bytes s → HasAsked g first bytes place s
     → admission_refusal s.hub.registry (request_for g.owner (g.draws g.place).reconnection) now ≡ Some reason
     → Stands g h draw bytes now (ends_by (request_refused reason) (writes (refusal_bytes reason) (does (Admit (request_for g.owner (g.draws g.place).reconnection) now) s)))
 refuses_stands g h draw first bytes place now reason s new asks is =

@@ -78,7 +78,7 @@ closed_channels kind g c epoch now cause h other held =
     subst (λ (o : Option Session). ChannelsOf kind o c.session c.settled c.fired) (sym moves.becomes)
     (becomes_called kind (h.session g.owner) _ c.session c.settled c.fired (silent_end_if b cause other) held)
 
-closes_good : (g : Ground) (c : ClientEnd g) (s : Serving) (epoch now : ℕ) (cause : Cause) (reason : End) → cause ≢ BadIpc → IsGoodEnd reason → KeepsChannels g c s
+pub closes_good : (g : Ground) (c : ClientEnd g) (s : Serving) (epoch now : ℕ) (cause : Cause) (reason : End) → cause ≢ BadIpc → IsGoodEnd reason → KeepsChannels g c s
     → KeepsChannels g c (ends_by reason (closes (seat_at g.owner epoch) cause now s))
 unfolding event_jobs
 closes_good g c s epoch now cause reason other good k = record {
@@ -107,7 +107,7 @@ long_admits epoch piece now s stated is =
     first_other (feed_refusal epoch s) (taken_refusal now (feed_session epoch piece now s)) (too_long stated) is (fed_never epoch s stated)
 
 -- the session is on the link, and has what came
-fed_view : (g : Ground) (c : ClientEnd g) (h : Hub) (draw : ℕ → List ℕ) (bytes piece after : List ℕ) (now epoch j : ℕ) (s : Serving) (session : Session)
+pub fed_view : (g : Ground) (c : ClientEnd g) (h : Hub) (draw : ℕ → List ℕ) (bytes piece after : List ℕ) (now epoch j : ℕ) (s : Serving) (session : Session)
     → s.hub.session g.owner ≡ Some session → feed_refusal epoch session ≡ None → Comes g h draw bytes piece after epoch j s
     → FedView c.session.peer session epoch piece now
 fed_view g c h draw bytes piece after now epoch j s session here admits comes =
@@ -146,7 +146,7 @@ turned_jobs g piece now epoch s session here none fit =
     (subst (λ (r : Option Refusal). JobsFit (turn_jobs r (turn_answer epoch piece now session) g.owner)) (sym none) fit)
 
 -- one that is not refused
-made_good : (g : Ground) (c : ClientEnd g) (h : Hub) (draw : ℕ → List ℕ) (bytes piece after : List ℕ) (now epoch j : ℕ) (s : Serving) (session : Session)
+pub made_good : (g : Ground) (c : ClientEnd g) (h : Hub) (draw : ℕ → List ℕ) (bytes piece after : List ℕ) (now epoch j : ℕ) (s : Serving) (session : Session)
     → s.hub.session g.owner ≡ Some session → turn_refusal epoch piece now session ≡ None → Comes g h draw bytes piece after epoch j s → KeepsChannels g c s
     → KeepsChannels g c (writes (turn_answer epoch piece now session).out (does (Turn (seat_at g.owner epoch) piece now) s))
 made_good g c h draw bytes piece after now epoch j s session here none comes k =
@@ -172,7 +172,7 @@ ended_cause (Some Quiet) cause is same = cc
 ended_cause (Some Closed) cause is same = cc
 
 -- a peer that left
-answer_cause : (epoch : ℕ) (piece : List ℕ) (now : ℕ) (s : Session) (cause : Cause) → (turn_answer epoch piece now s).ended ≡ Some cause → cause ≢ BadIpc
+pub answer_cause : (epoch : ℕ) (piece : List ℕ) (now : ℕ) (s : Session) (cause : Cause) → (turn_answer epoch piece now s).ended ≡ Some cause → cause ≢ BadIpc
 unfolding turn_answer taken_answer
 answer_cause epoch piece now s cause is = ended_cause (delivery (feed_session epoch piece now s).peer.endpoint) cause is
 
@@ -208,7 +208,7 @@ in_good g c h draw bytes piece after now epoch j s None here comes k = k
 in_good g c h draw bytes piece after now epoch j s (Some session) here comes k =
     by_good g c h draw bytes piece after now epoch j s session (turn_refusal epoch piece now session) here refl comes k
 
-turned_good : (g : Ground) (c : ClientEnd g) (h : Hub) (draw : ℕ → List ℕ) (bytes piece after : List ℕ) (now epoch j : ℕ) (s : Serving)
+pub turned_good : (g : Ground) (c : ClientEnd g) (h : Hub) (draw : ℕ → List ℕ) (bytes piece after : List ℕ) (now epoch j : ℕ) (s : Serving)
     → Comes g h draw bytes piece after epoch j s → KeepsChannels g c s → KeepsChannels g c (turned (seat_at g.owner epoch) piece now s).after
 unfolding turned
 turned_good g c h draw bytes piece after now epoch j s comes k = in_good g c h draw bytes piece after now epoch j s (s.hub.session g.owner) refl comes k
@@ -247,7 +247,7 @@ attach_good : (epoch : ℕ) (s : Session) (r : Refusal) → attach_refusal epoch
 unfolding attach_refusal
 attach_good epoch s r is = attach_by s.cause _ s.peer.endpoint.epoch r is
 
-begun_good : (g : Ground) (c : ClientEnd g) (epoch now : ℕ) (t : Serving) (session : Session) → t.hub.session g.owner ≡ Some session → KeepsChannels g c t
+pub begun_good : (g : Ground) (c : ClientEnd g) (epoch now : ℕ) (t : Serving) (session : Session) → t.hub.session g.owner ≡ Some session → KeepsChannels g c t
     → KeepsChannels g c (does (Attach (seat_at g.owner epoch) [] now) t)
 unfolding event_jobs
 begun_good g c epoch now t session here k =

@@ -55,7 +55,7 @@ refused_same : (owner : Key) (reconnection : Bool) (now : ℕ) (reason : Reason)
 unfolding event_done refused
 refused_same owner reconnection now reason h is = ap (λ (o : Option Reason). (judged_by o (request_for owner reconnection) now h).session owner) is
 
-refuses_good : (g : Ground) (c : ClientEnd g) (reconnection : Bool) (now : ℕ) (reason : Reason) (s : Serving)
+pub refuses_good : (g : Ground) (c : ClientEnd g) (reconnection : Bool) (now : ℕ) (reason : Reason) (s : Serving)
     → admission_refusal s.hub.registry (request_for g.owner reconnection) now ≡ Some reason → KeepsChannels g c s
     → KeepsChannels g c (ends_by (request_refused reason) (writes (refusal_bytes reason) (does (Admit (request_for g.owner reconnection) now) s)))
 unfolding event_jobs
@@ -66,7 +66,7 @@ refuses_good g c reconnection now reason s is k = record {
   own = k.own;
 }
 
-admits_good : (g : Ground) (c : ClientEnd g) (h : Hub) (bytes : List ℕ) (place now : ℕ) (s : Serving) → IsNew g h bytes s
+pub admits_good : (g : Ground) (c : ClientEnd g) (h : Hub) (bytes : List ℕ) (place now : ℕ) (s : Serving) → IsNew g h bytes s
     → admission_refusal s.hub.registry (request_for g.owner (g.draws g.place).reconnection) now ≡ None → KeepsChannels g c s → KeepsChannels g c (admitted_link g place now s)
 unfolding admitted_link event_jobs
 admits_good g c h bytes place now s new admits k =
@@ -113,7 +113,7 @@ asked_so g c h draw first bytes text request place now t new asks is none k =
 
 -- ---- the handshake goes on
 
-come_good : (g : Ground) (c : ClientEnd g) (next : ℕ → List ℕ) (bytes : List ℕ) (s : Serving) → KeepsChannels g c s → KeepsChannels g c (come g next bytes s)
+pub come_good : (g : Ground) (c : ClientEnd g) (next : ℕ → List ℕ) (bytes : List ℕ) (s : Serving) → KeepsChannels g c s → KeepsChannels g c (come g next bytes s)
 come_good g c next bytes s k = record { channels = k.channels; jobs = k.jobs; end = k.end; own = k.own }
 
 came_good : (g : Ground) (c : ClientEnd g) (h : Hub) (next : ℕ → List ℕ) (bytes : List ℕ) (now : ℕ) (s : Serving) (x : IsShaking g h bytes s) (stage : Stage)

@@ -229,14 +229,14 @@ waits_so g h next bytes now s x waits drawn speaks =
     })
 
 -- a front of what it says, where it would be refused
-speaks_answer : (owner : Key) (key own theirs out : List ℕ) → (out ≡ answer_text (key_text key)) ⊎ (out ≡ greeting key own theirs) → Speaks owner.kind key None out
+pub speaks_answer : (owner : Key) (key own theirs out : List ℕ) → (out ≡ answer_text (key_text key)) ⊎ (out ≡ greeting key own theirs) → Speaks owner.kind key None out
 speaks_answer owner key own theirs out (inl is) =
     let sign : List ℕ = in_frame (sign_text (made_text own) (signature_text secret theirs)) in
     (own, theirs, UnknownKind, sign ++ refusal_bytes UnknownKind, ap (λ (t : List ℕ). t ++ (sign ++ refusal_bytes UnknownKind)) is ∙ sym (append_assoc (answer_text (key_text key)) sign (refusal_bytes UnknownKind)))
 speaks_answer owner key own theirs out (inr is) =
     (own, theirs, UnknownKind, refusal_bytes UnknownKind, ap (λ (t : List ℕ). t ++ refusal_bytes UnknownKind) is)
 
-speaks_nothing : (owner : Key) (key own theirs out : List ℕ) → out ≡ [] → Speaks owner.kind key None out
+pub speaks_nothing : (owner : Key) (key own theirs out : List ℕ) → out ≡ [] → Speaks owner.kind key None out
 speaks_nothing owner key own theirs out none =
     let all : List ℕ = greeting key own theirs ++ refusal_bytes UnknownKind in
     (own, theirs, UnknownKind, all, ap (λ (t : List ℕ). t ++ all) none)

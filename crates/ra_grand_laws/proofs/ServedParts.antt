@@ -52,7 +52,7 @@ pub focus_at : (n m : ℕ) (f : Found) (w : Grand) (is : IsFound n m f w) → Fo
 focus_at n m f w is = focus (w.hub.session f.client.key) (row w.hub f.client.key) f.client (part_at n m f w is) m f.link is.link
 
 -- the world, once the link was served so
-changes_by : (bytes : List ℕ) (over : Bool) (u : Serving) (n m : ℕ) (f : Found) (w : Grand) (is : IsFound n m f w) → Going (ground_at n m f w is) w.hub (draw_at f.link w) bytes over u
+pub changes_by : (bytes : List ℕ) (over : Bool) (u : Serving) (n m : ℕ) (f : Found) (w : Grand) (is : IsFound n m f w) → Going (ground_at n m f w is) w.hub (draw_at f.link w) bytes over u
     → Changes n f.client (with_link (suc m) (link_after bytes over u f.link (draw_at f.link w)) f.client) w (put_served bytes over u f w)
 changes_by bytes over u n m f w is going =
     let new : GrandLink = link_after bytes over u f.link (draw_at f.link w) in
@@ -96,7 +96,7 @@ unfolding with_piece
 plain owner reconnection key seen bytes head is = subst (λ (h : Head Upgrade HeadFault). with_piece h seen bytes ≡ seen ++ bytes) (sym is) refl
 
 -- the link before anything was read
-start : (g : Ground) (w : Grand) (draw : ℕ → List ℕ) (epoch : ℕ) (x : Focus g (w.hub.session g.owner) (row w.hub g.owner) g.link) → g.link.server.is_over ≡ false
+pub start : (g : Ground) (w : Grand) (draw : ℕ → List ℕ) (epoch : ℕ) (x : Focus g (w.hub.session g.owner) (row w.hub g.owner) g.link) → g.link.server.is_over ≡ false
     → g.link.server.seat ≡ Some (seat_at g.owner epoch) → Going g w.hub draw [] false (serving_at g.link w)
 start g w draw epoch x over at =
     let s : Option Session = w.hub.session g.owner in

@@ -39,7 +39,7 @@ put_first bytes over s l draw more is = record {
   link = ap (λ (t : List ℕ). written_to A t (read_on B (length bytes) l.link)) (ap (λ (t : List ℕ). drop (length l.server.out) t) is ∙ drop_at l.server.out more (length l.server.out) refl);
 }
 
-put_twice : (cut : Bool) (written first more : List ℕ) → written ++ cond cut [] (first ++ more) ≡ (written ++ cond cut [] first) ++ cond cut [] more
+pub put_twice : (cut : Bool) (written first more : List ℕ) → written ++ cond cut [] (first ++ more) ≡ (written ++ cond cut [] first) ++ cond cut [] more
 put_twice true written first more = sym (append-nil (written ++ []))
 put_twice false written first more = sym (append_assoc written first more)
 

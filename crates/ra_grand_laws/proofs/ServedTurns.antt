@@ -139,7 +139,7 @@ fed_admits None false linked n is = cc
 fed_admits (Some cause) alike linked n is = cc
 
 -- the seat is that of the session's present link, which is there
-fed_on : (epoch : ℕ) (s : Session) → feed_refusal epoch s ≡ None → (epoch ≡ s.peer.endpoint.epoch) × (is_linked s.peer.endpoint.phase ≡ true)
+pub fed_on : (epoch : ℕ) (s : Session) → feed_refusal epoch s ≡ None → (epoch ≡ s.peer.endpoint.epoch) × (is_linked s.peer.endpoint.phase ≡ true)
 unfolding feed_refusal
 fed_on epoch s admits =
     let found = fed_admits s.cause (eqb epoch s.peer.endpoint.epoch) (is_linked s.peer.endpoint.phase) s.peer.endpoint.epoch admits in

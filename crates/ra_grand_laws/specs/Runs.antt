@@ -5,6 +5,8 @@ use Rattle.ra_base.specs.declared.kind.Kind.TheVariants.{Tunnel}
 use Rattle.ra_script.specs.GrandLines.{GrandEventFits}
 use Rattle.ra_script.specs.declared.grand_line.GrandEvent.{GrandEvent}
 use Rattle.ra_script.specs.declared.grand_line.GrandEvent.TheVariants as events
+use Rattle.ra_grand.specs.Fits.{RunFits}
+use Rattle.ra_grand.specs.Grands.{new_grand}
 use Rattle.ra_grand.specs.Marks.{Mark, whole, short, unticked, Entry}
 
 -- memory did not run out at the server's end of a link
@@ -12,10 +14,6 @@ abbrev pub IsUnbroken : Mark → Type 0
 IsUnbroken whole = ⊤
 IsUnbroken (short draws calls bytes) = ⊥
 IsUnbroken (unticked keys) = ⊤
-
-abbrev pub AreUnbroken : List Entry → Type 0
-AreUnbroken [] = ⊤
-AreUnbroken (entry ∷ entries) = IsUnbroken entry.mark × AreUnbroken entries
 
 -- nor did it in a sweep
 abbrev pub IsWhole : Mark → Type 0
@@ -40,3 +38,10 @@ HaveKeys (entry ∷ entries) = HasKey entry.event × HaveKeys entries
 abbrev pub HaveRequests : List Entry → Type 0
 HaveRequests [] = ⊤
 HaveRequests (entry ∷ entries) = GrandEventFits entry.event × HaveRequests entries
+
+-- A run of which the laws speak, as `run_grand` answers it: its marks fit, its clients have tokens and are of no tunnels, and what is asked
+-- for can be written.
+pub record IsRun (entries : List Entry) : Type 0 where
+  pub fits : RunFits entries new_grand
+  pub keys : HaveKeys entries
+  pub requests : HaveRequests entries

@@ -1,6 +1,6 @@
 //! The laws.
-ghost use Rattle.std.specs.Prelude.{◌==◌, ◌≤◌, ◌≡◌, ◌≢◌, ◌<◌, ℕ, Bool, List, [], ◌++◌, length, All, Option, Some, None, false};
-ghost use Rattle.ra_base.specs.TokenGrammar.{IsToken};
+ghost use Rattle.std.specs.Prelude.{◌==◌, ◌≤◌, ◌≡◌, ◌≢◌, ℕ, Bool, List, [], ◌++◌, length, Option, Some, None, false};
+ghost use Rattle.std.specs.List.{AllByRecursion};
 ghost use Rattle.ra_base.specs.declared.key.Key.{Key};
 ghost use Rattle.ra_base.specs.declared.key.Cause.TheVariants.{BadIpc};
 ghost use Rattle.ra_base.specs.declared.kind.Kind.TheVariants.{Management, Tunnel};
@@ -19,7 +19,7 @@ ghost use Rattle.ra_dial.specs.ShakingStates.{ShakingState};
 ghost use Rattle.ra_grand.specs.SetUps.{settings_for, request_head, answer_head, grounds};
 ghost use Rattle.ra_grand.specs.Marks.{Entry};
 ghost use Rattle.ra_grand.specs.GrandClients.{GrandLink, Client};
-ghost use Rattle.ra_grand.specs.GrandEvents.{Ran};
+ghost use Rattle.ra_grand.specs.GrandEvents.{IsGrandEvent, Ran};
 ghost use Rattle.ra_grand.specs.declared.world.GrandWorld.{GrandWorld};
 ghost use Rattle.ra_grand.specs.Grands.{new_grand};
 ghost use Rattle.ra_script.specs.declared.grand_line.GrandEvent.{GrandEvent};
@@ -34,7 +34,7 @@ ghost use Rattle.ra_grand_laws.specs.ChannelParts.{ChannelsKeep};
 ghost use Rattle.ra_grand_laws.specs.Outcomes.{settled, fired};
 ghost use Rattle.ra_grand_laws.specs.Isolation.{alone, view_of};
 ghost use Rattle.ra_grand_laws.specs.Parted.{SamePart};
-ghost use Rattle.ra_grand_laws.specs.Runs.{AreWhole, AreUnbroken, HaveKeys, HaveRequests};
+ghost use Rattle.ra_grand_laws.specs.Runs.{AreWhole, HaveKeys, IsRun};
 ghost use Rattle.ra_grand_laws.specs.Rising.{HubRises, ClientsRise};
 ghost use Rattle.ra_grand_laws.specs.Handshakes.{client_text, OpensAt, Speaks, ReadsHandshake, HasSaid, LooksTo};
 
@@ -42,14 +42,12 @@ ghost use Rattle.ra_grand_laws.specs.Handshakes.{client_text, OpensAt, Speaks, R
 /// and what it writes depends on its first draw alone.
 pub fn openings()
     ensures opens { (owner : Key) (reconnection : Bool) (key own theirs : List ℕ) (draw : ℕ → List ℕ) (text rest : List ℕ)
-        → IsToken owner.token → owner.kind ≢ Tunnel → length key ≡ 16 → All (λ b. b < 256) key
-        → text ++ rest ≡ client_text owner reconnection key own theirs
+        → owner.kind ≢ Tunnel → text ++ rest ≡ client_text owner reconnection key own theirs
         → OpensAt owner reconnection key own theirs (draw 0) text
         (opened (grounds draw) (request_head (settings_for owner) reconnection key) text).stage
         (opened (grounds draw) (request_head (settings_for owner) reconnection key) text) }
     ensures draws { (owner : Key) (reconnection : Bool) (key own theirs : List ℕ) (draw : ℕ → List ℕ) (text rest : List ℕ)
-        → IsToken owner.token → owner.kind ≢ Tunnel → length key ≡ 16 → All (λ b. b < 256) key
-        → text ++ rest ≡ client_text owner reconnection key own theirs
+        → owner.kind ≢ Tunnel → text ++ rest ≡ client_text owner reconnection key own theirs
         → opened (grounds draw) (request_head (settings_for owner) reconnection key) text
         ≡ opened (grounds (λ n. draw 0)) (request_head (settings_for owner) reconnection key) text }
 {}
@@ -68,43 +66,40 @@ pub fn handshakes()
         (looked_at (settings_for owner) (answer_head s.key s.unread) s).0 (looked_at (settings_for owner) (answer_head s.key s.unread) s).1 }
 {}
 
-/// In every run in which memory did not run out at the server's end of a link, a client and the session of its key are two ends: each has
-/// heard the first of the messages that the other said, each once and in order, and keeps what is not acknowledged. Before there is a
-/// session the client has heard nothing.
+/// In every run, also where memory ran out, a client and the session of its key are two ends: each has heard the first of the messages
+/// that the other said, each once and in order, and keeps what is not acknowledged. Before there is a session the client has heard nothing.
 pub fn both_ends()
-    ensures hear { (entries : List Entry) (n : ℕ) (c : Client) (s : Session) → AreUnbroken entries → HaveKeys entries
+    ensures hear { (entries : List Entry) (n : ℕ) (c : Client) (s : Session) → IsRun entries
         → at_number (run entries new_grand).clients n ≡ Some c → (run entries new_grand).hub.session c.key ≡ Some s
         → BothHear c.dialer.session.peer s.peer }
-    ensures nothing { (entries : List Entry) (n : ℕ) (c : Client) → AreUnbroken entries → HaveKeys entries
+    ensures nothing { (entries : List Entry) (n : ℕ) (c : Client) → IsRun entries
         → at_number (run entries new_grand).clients n ≡ Some c → (run entries new_grand).hub.session c.key ≡ None
         → c.dialer.session.peer.heard ≡ [] }
 {}
 
-/// In such a run, behind the handshake of each link whose client was welcomed: what each end wrote is a front of frames that it may write.
+/// In every run, behind the handshake of each link whose client was welcomed: what each end wrote is a front of frames that it may write.
 /// An attached client, and a server with the seat of its session's present link, have written whole such frames, but for what is not written
 /// yet, unless the link is cut; and what they read is the frames that they applied, and what they have not.
 pub fn links()
-    ensures honest { (entries : List Entry) (n m : ℕ) (c : Client) (s : Session) (l : GrandLink) (w : Welcome) → AreUnbroken entries
-        → HaveKeys entries → at_number (run entries new_grand).clients n ≡ Some c
+    ensures honest { (entries : List Entry) (n m : ℕ) (c : Client) (s : Session) (l : GrandLink) (w : Welcome) → IsRun entries → at_number (run entries new_grand).clients n ≡ Some c
         → (run entries new_grand).hub.session c.key ≡ Some s → at_number c.links m ≡ Some l → l.server.welcome ≡ Some w
         → LinkHonest c.dialer.session.peer s.peer w l }
-    ensures client { (entries : List Entry) (n : ℕ) (c : Client) (s : Session) (l : GrandLink) → AreUnbroken entries → HaveKeys entries
+    ensures client { (entries : List Entry) (n : ℕ) (c : Client) (s : Session) (l : GrandLink) → IsRun entries
         → at_number (run entries new_grand).clients n ≡ Some c → (run entries new_grand).hub.session c.key ≡ Some s
         → c.dialer.stage ≡ stages.Attached → at_number c.links (length c.links) ≡ Some l → c.dialer.session.cause ≡ None
         → (w : Welcome) × (l.server.welcome ≡ Some w)
         × HoldsLink (messages c.dialer.session.peer.endpoint) c.dialer.session.peer (text_up w l) (read_down w l) l.link.is_cut }
-    ensures server { (entries : List Entry) (n m : ℕ) (c : Client) (s : Session) (l : GrandLink) (seat : Seat) → AreUnbroken entries
-        → HaveKeys entries → at_number (run entries new_grand).clients n ≡ Some c
+    ensures server { (entries : List Entry) (n m : ℕ) (c : Client) (s : Session) (l : GrandLink) (seat : Seat) → IsRun entries → at_number (run entries new_grand).clients n ≡ Some c
         → (run entries new_grand).hub.session c.key ≡ Some s → at_number c.links m ≡ Some l → l.server.is_over ≡ false
         → l.server.seat ≡ Some seat → seat.epoch ≡ s.peer.endpoint.epoch
         → (w : Welcome) × (l.server.welcome ≡ Some w) × (seat.key ≡ c.key)
         × HoldsLink (messages s.peer.endpoint) s.peer (text_down w l) (read_up w l) l.link.is_cut }
 {}
 
-/// What `run_grand` answers is such a run, where none of its marks tells of want of memory at the server's end of a link: its clients have
-/// tokens, and are no clients of tunnels.
+/// What `run_grand` answers is such a run.
 pub fn accepted()
-    ensures { (events : List GrandEvent) (world : GrandWorld) (ran : Ran events world) → HaveKeys ran.entries }
+    ensures { (events : List GrandEvent) (world : GrandWorld) (ran : Ran events world) → AllByRecursion IsGrandEvent events
+        → IsRun ran.entries }
 {}
 
 /// Nothing is taken back in a run: what was said and heard stays and only grows, and sent, received and acknowledged never fall. A client
@@ -124,34 +119,31 @@ pub fn isolation()
 
 /// In every run: what a client hands up is what a run of the channels at both ends hands up.
 pub fn channels()
-    ensures { (entries : List Entry) → AreUnbroken entries → HaveKeys entries → HaveRequests entries
+    ensures { (entries : List Entry) → IsRun entries
         → ChannelsKeep (run entries new_grand) (λ n. settled n entries new_grand) (λ n. fired n entries new_grand) }
 {}
 
-/// In such a run each call of a client of a management session settles at most once, by its own cancel or the first answer that was heard
+/// In every run each call of a client of a management session settles at most once, by its own cancel or the first answer that was heard
 /// behind it; where there is a session, how its calls are answered and its listeners are handed events is as at the channels' two ends. No
 /// session, of whatever kind, ends for a bad message.
 pub fn settling()
-    ensures once { (entries : List Entry) (n : ℕ) (c : Client) → AreUnbroken entries → HaveKeys entries → HaveRequests entries
+    ensures once { (entries : List Entry) (n : ℕ) (c : Client) → IsRun entries
         → at_number (run entries new_grand).clients n ≡ Some c → c.key.kind ≡ Management
         → (i : ℕ) → number_of (λ s. s.0 == i) (settled n entries new_grand) ≤ 1 }
-    ensures own { (entries : List Entry) (n : ℕ) (c : Client) → AreUnbroken entries → HaveKeys entries → HaveRequests entries
+    ensures own { (entries : List Entry) (n : ℕ) (c : Client) → IsRun entries
         → at_number (run entries new_grand).clients n ≡ Some c → c.key.kind ≡ Management
         → (i : ℕ) → settled_as i (settled n entries new_grand) ≡ outcome i c.dialer.session.entries }
-    ensures settles { (entries : List Entry) (n : ℕ) (c : Client) (s : Session) → AreUnbroken entries → HaveKeys entries
-        → HaveRequests entries → at_number (run entries new_grand).clients n ≡ Some c → c.key.kind ≡ Management
+    ensures settles { (entries : List Entry) (n : ℕ) (c : Client) (s : Session) → IsRun entries → at_number (run entries new_grand).clients n ≡ Some c → c.key.kind ≡ Management
         → (run entries new_grand).hub.session c.key ≡ Some s
         → Settles c.dialer.session s (settled n entries new_grand) (fired n entries new_grand) }
-    ensures client { (entries : List Entry) (n : ℕ) (c : Client) → AreUnbroken entries → HaveKeys entries → HaveRequests entries
+    ensures client { (entries : List Entry) (n : ℕ) (c : Client) → IsRun entries
         → at_number (run entries new_grand).clients n ≡ Some c → c.dialer.session.cause ≢ Some BadIpc }
-    ensures server { (entries : List Entry) (n : ℕ) (c : Client) (s : Session) → AreUnbroken entries → HaveKeys entries
-        → HaveRequests entries → at_number (run entries new_grand).clients n ≡ Some c
+    ensures server { (entries : List Entry) (n : ℕ) (c : Client) (s : Session) → IsRun entries → at_number (run entries new_grand).clients n ≡ Some c
         → (run entries new_grand).hub.session c.key ≡ Some s → s.cause ≢ Some BadIpc }
 {}
 
-/// In such a run no link comes to its end at the server for a header that states too long a body, or for a bad message.
+/// In every run no link comes to its end at the server for a header that states too long a body, or for a bad message.
 pub fn ends()
-    ensures { (entries : List Entry) (entry : Entry) (bytes : List ℕ) (end : End) → AreUnbroken entries → HaveKeys entries
-        → HaveRequests entries → refusal entry.event (run entries new_grand) ≡ None
+    ensures { (entries : List Entry) (entry : Entry) (bytes : List ℕ) (end : End) → IsRun entries → refusal entry.event (run entries new_grand) ≡ None
         → effect entry.mark entry.event (run entries new_grand) ≡ moved bytes (Some end) → IsGoodEnd end }
 {}

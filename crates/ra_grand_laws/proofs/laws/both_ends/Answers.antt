@@ -5,6 +5,6 @@ use Rattle.ra_grand.specs.Grands.{new_grand}
 
 pub returns : goal.returns
 returns c = record {
-  hear = λ entries n c s unbroken keys is session. hear (run entries new_grand) n c s (reached entries unbroken keys) is session;
-  nothing = λ entries n c unbroken keys is session. nothing (run entries new_grand) n c (reached entries unbroken keys) is session;
+  hear = λ entries n c s is_run is session. hear (run entries new_grand) n c s (reached entries is_run) is session;
+  nothing = λ entries n c is_run is session. nothing (run entries new_grand) n c (reached entries is_run) is session;
 }

@@ -7,6 +7,6 @@ use Rattle.ra_grand_laws.proofs.Reaching.{reached}
 use Rattle.ra_grand_laws.proofs.laws.ends.Goals as goal
 
 pub returns : goal.returns
-returns c = λ entries entry bytes end unbroken keys requests none is.
-    good_end entry (run entries new_grand) (λ n. settled n entries new_grand) (λ n. fired n entries new_grand) bytes end none (reached entries unbroken keys)
-    (channels_reached entries unbroken keys requests) is
+returns c = λ entries entry bytes end is_run none is.
+    good_end entry (run entries new_grand) (λ n. settled n entries new_grand) (λ n. fired n entries new_grand) bytes end none (reached entries is_run)
+    (channels_reached entries is_run) is

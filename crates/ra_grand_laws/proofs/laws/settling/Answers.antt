@@ -8,16 +8,16 @@ use Rattle.ra_grand_laws.proofs.laws.settling.Goals as goal
 
 pub returns : goal.returns
 returns c = record {
-  once = λ entries n c unbroken keys requests is kind i.
-      settles_once (run entries new_grand) (λ n. settled n entries new_grand) (λ n. fired n entries new_grand) n c (channels_reached entries unbroken keys requests) is kind i;
-  own = λ entries n c unbroken keys requests is kind i.
-      settles_own (run entries new_grand) (λ n. settled n entries new_grand) (λ n. fired n entries new_grand) n c (channels_reached entries unbroken keys requests) is kind i;
-  settles = λ entries n c s unbroken keys requests is kind session.
-      settles_with (run entries new_grand) (λ n. settled n entries new_grand) (λ n. fired n entries new_grand) n c s (channels_reached entries unbroken keys requests) is kind session;
-  client = λ entries n c unbroken keys requests is.
-      client_well (run entries new_grand) (λ n. settled n entries new_grand) (λ n. fired n entries new_grand) n c (channels_reached entries unbroken keys requests) is
-      (no_tunnel (run entries new_grand) n c (reached entries unbroken keys) is);
-  server = λ entries n c s unbroken keys requests is session.
-      server_well (run entries new_grand) (λ n. settled n entries new_grand) (λ n. fired n entries new_grand) n c s (channels_reached entries unbroken keys requests) is
-      (no_tunnel (run entries new_grand) n c (reached entries unbroken keys) is) session;
+  once = λ entries n c is_run is kind i.
+      settles_once (run entries new_grand) (λ n. settled n entries new_grand) (λ n. fired n entries new_grand) n c (channels_reached entries is_run) is kind i;
+  own = λ entries n c is_run is kind i.
+      settles_own (run entries new_grand) (λ n. settled n entries new_grand) (λ n. fired n entries new_grand) n c (channels_reached entries is_run) is kind i;
+  settles = λ entries n c s is_run is kind session.
+      settles_with (run entries new_grand) (λ n. settled n entries new_grand) (λ n. fired n entries new_grand) n c s (channels_reached entries is_run) is kind session;
+  client = λ entries n c is_run is.
+      client_well (run entries new_grand) (λ n. settled n entries new_grand) (λ n. fired n entries new_grand) n c (channels_reached entries is_run) is
+      (no_tunnel (run entries new_grand) n c (reached entries is_run) is);
+  server = λ entries n c s is_run is session.
+      server_well (run entries new_grand) (λ n. settled n entries new_grand) (λ n. fired n entries new_grand) n c s (channels_reached entries is_run) is
+      (no_tunnel (run entries new_grand) n c (reached entries is_run) is) session;
 }
