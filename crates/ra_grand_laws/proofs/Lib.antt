@@ -91,3 +91,6 @@ pub mod ShortAdmissions
 pub mod ShortOpenings
 pub mod ShortParts
 pub mod FittingRuns
+pub mod SessionPackets
+pub mod HubPackets
+pub mod RunPackets

@@ -133,7 +133,7 @@ served_step bytes l w rows =
     by_piece None l.server.seat (grounds (draw_at l w)) (with_piece l.server.head l.server.seen bytes) l.server.head (record { bytes = bytes; now = w.now })
     (serving_at l w) rows
 
-came_step : (mark : Mark) (bytes : List ℕ) (l : GrandLink) (w : Grand) → HaveRows w.hub → HubStep w.hub (came_by mark (serving_at l w) (served bytes l w)).link.hub
+pub came_step : (mark : Mark) (bytes : List ℕ) (l : GrandLink) (w : Grand) → HaveRows w.hub → HubStep w.hub (came_by mark (serving_at l w) (served bytes l w)).link.hub
 came_step whole bytes l w rows = served_step bytes l w rows
 came_step (short draws made put) bytes l w rows = step_events (take made (served bytes l w).events) w.hub rows
 came_step (unticked keys) bytes l w rows = served_step bytes l w rows

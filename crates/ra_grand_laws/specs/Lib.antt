@@ -10,3 +10,4 @@ pub mod Outcomes
 pub mod ChannelParts
 pub mod Settling
 pub mod GoodEnds
+pub mod SaidPackets

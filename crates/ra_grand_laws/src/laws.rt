@@ -30,6 +30,7 @@ ghost use Rattle.ra_model.specs.Links.{at_number};
 ghost use Rattle.ra_model.specs.Pairs.{messages};
 ghost use Rattle.ra_grand_laws.specs.Ends.{BothHear, LinkHonest, HoldsLink, text_up, text_down, read_up, read_down};
 ghost use Rattle.ra_grand.specs.GrandRuns.{run};
+ghost use Rattle.ra_grand_laws.specs.SaidPackets.{without_initialize, packets_over};
 ghost use Rattle.ra_grand_laws.specs.ChannelParts.{ChannelsKeep};
 ghost use Rattle.ra_grand_laws.specs.Outcomes.{settled, fired};
 ghost use Rattle.ra_grand_laws.specs.Isolation.{alone, view_of};
@@ -146,4 +147,12 @@ pub fn settling()
 pub fn ends()
     ensures { (entries : List Entry) (entry : Entry) (bytes : List ℕ) (end : End) → IsRun entries → refusal entry.event (run entries new_grand) ≡ None
         → effect entry.mark entry.event (run entries new_grand) ≡ moved bytes (Some end) → IsGoodEnd end }
+{}
+
+/// In every run, whatever its marks, the packets that a session of the server has said, but for Initialize, are those of the tools' answers
+/// that it was told, each behind the events that it fired for the listeners of that moment, and the answers to calls that waited too long
+/// for their channel, in order.
+pub fn answers()
+    ensures { (entries : List Entry) (key : Key) (s : Session) → (run entries new_grand).hub.session key ≡ Some s
+        → without_initialize s.packets ≡ packets_over key entries new_grand }
 {}
