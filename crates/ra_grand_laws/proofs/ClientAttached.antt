@@ -37,7 +37,7 @@ use Rattle.ra_grand_laws.proofs.BadTurns.{turn_feeds, feeds_going, bad_quiet}
 use Rattle.ra_grand_laws.proofs.ClientGrounds.{Ground, After, with_stage, ground_of}
 use Rattle.ra_grand_laws.proofs.ClientLinks.{Here, here_of}
 use Rattle.ra_grand_laws.proofs.ClientSends.{attached_on, left_over, rests}
-use Rattle.ra_grand_laws.proofs.LiftedMoves.{nothing_up}
+use Rattle.ra_grand_laws.proofs.SessionLinkMoves.{nothing_up}
 
 -- the client as it is while it is attached
 abbrev pub live : Client → Client
@@ -45,20 +45,20 @@ live c = with_stage stages.Attached c
 
 -- what holds of it beside the rest
 pub record IsLive (s : Option Session) (o : Option Row) (c : Client) (g : Ground s o (live c)) : Type 0 where
-  pub here : Here g.lifted g.number c.links
+  pub here : Here g.session_links g.number c.links
   pub all : g.attached ≡ length c.links
   pub none : c.dialer.pending ≡ []
   pub linked : c.dialer.session.cause ≡ None → is_linked c.dialer.session.peer.endpoint.phase ≡ true
   pub behind : here.welcome.down ≤ here.link.link.to_a.read
   pub quiet : shown c.dialer.session.peer.endpoint ≡ []
-  pub read : c.dialer.session.cause ≡ None → here.lift.to_a.read + here.welcome.down ≡ length here.welcome.pause + here.link.link.to_a.read
+  pub read : c.dialer.session.cause ≡ None → here.session_link.to_a.read + here.welcome.down ≡ length here.welcome.pause + here.link.link.to_a.read
 
 pub live_of : (s : Option Session) (o : Option Row) (c : Client) (p : PartHolds s o (live c)) → IsLive s o c (ground_of s o (live c) p)
 unfolding ground_of here_of
 live_of s o c p =
     let last = p.stage.1 in
     let on = last.4 in
-    let h = here_of c.key p.draws p.lifted p.present p.number p.attached c.links (ground_of s o (live c) p).links last.0 last.1 last.2 last.3 on.welcome on.is_there on.is_number in
+    let h = here_of c.key p.draws p.session_links p.present p.number p.attached c.links (ground_of s o (live c) p).links last.0 last.1 last.2 last.3 on.welcome on.is_there on.is_number in
     record {
       here = h;
       all = p.stage.0;
@@ -66,7 +66,7 @@ live_of s o c p =
       linked = λ going. (on.on_link going).1;
       behind = on.behind;
       quiet = on.quiet;
-      read = λ going. on.read going h.lift h.lift_at;
+      read = λ going. on.read going h.session_link h.session_link_at;
     }
 
 -- ---- nothing waits to be written
@@ -83,15 +83,15 @@ put_itself xs (suc n) x is = set_itself xs n x is
         there e = cc
     set_itself (y ∷ ys) (suc n) x is = ap (λ zs. y ∷ zs) (set_itself ys n x is)
 
--- nothing is written on the lifted link
-pub written_nothing : (lifted : List Link) (number : ℕ) (x : Link) (bytes : List ℕ) → at_number lifted number ≡ Some x → bytes ≡ [] → put_number lifted number (written_to B bytes x) ≡ lifted
-written_nothing lifted number x bytes at none =
-    ap (λ (t : List ℕ). put_number lifted number (written_to B t x)) none ∙ ap (λ (y : Link). put_number lifted number y) (nothing_up x) ∙ put_itself lifted number x at
+-- nothing is written on the session's link
+pub written_nothing : (session_links : List Link) (number : ℕ) (x : Link) (bytes : List ℕ) → at_number session_links number ≡ Some x → bytes ≡ [] → put_number session_links number (written_to B bytes x) ≡ session_links
+written_nothing session_links number x bytes at none =
+    ap (λ (t : List ℕ). put_number session_links number (written_to B t x)) none ∙ ap (λ (y : Link). put_number session_links number y) (nothing_up x) ∙ put_itself session_links number x at
 
-pub view_nothing : (lifted : List Link) (number present : ℕ) (p peer : Peer) (x : Link) (bytes : List ℕ) → at_number lifted number ≡ Some x → bytes ≡ []
-    → View 0 A number present p peer lifted → View 0 A number present p peer (put_number lifted number (written_to B bytes x))
-view_nothing lifted number present p peer x bytes at none view =
-    subst (λ (ls : List Link). View 0 A number present p peer ls) (sym (written_nothing lifted number x bytes at none)) view
+pub view_nothing : (session_links : List Link) (number present : ℕ) (p peer : Peer) (x : Link) (bytes : List ℕ) → at_number session_links number ≡ Some x → bytes ≡ []
+    → View 0 A number present p peer session_links → View 0 A number present p peer (put_number session_links number (written_to B bytes x))
+view_nothing session_links number present p peer x bytes at none view =
+    subst (λ (ls : List Link). View 0 A number present p peer ls) (sym (written_nothing session_links number x bytes at none)) view
 
 -- ---- calls of the session that keep its link
 
@@ -102,7 +102,7 @@ called_on s o c g is drawn act call views keeps =
     let h = is.here in
     let same = keeps old in
     attached_on s o (live c) g h drawn act (record c.dialer { session = call old }) is.all refl ((number_link call keeps old).1 g.runs)
-    (view_nothing g.lifted g.number g.present (call old).peer g.peer h.lift c.dialer.pending h.lift_at is.none (views 0 A g.number g.present old g.peer g.lifted g.view))
+    (view_nothing g.session_links g.number g.present (call old).peer g.peer h.session_link c.dialer.pending h.session_link_at is.none (views 0 A g.number g.present old g.peer g.session_links g.view))
     (λ going. ap is_linked same.1 ∙ is.linked (sym same.2 ∙ going)) is.behind (λ going. is.read (sym same.2 ∙ going))
 
 -- nothing happens to it
@@ -117,12 +117,12 @@ over_on s o c g is drawn act end = rests s o (live c) g drawn act c.dialer (stag
 
 -- its link is lost
 lost_on : (s : Option Session) (o : Option Row) (c : Client) (g : Ground s o (live c)) → (drawn : ℕ) (drops : Bool) (now : ℕ) (x : Session) → IsRunning x
-    → View 0 A g.number g.present x.peer g.peer g.lifted → After s o (live c) drawn (loses drops now (record c.dialer { stage = stages.Attached; session = x }))
+    → View 0 A g.number g.present x.peer g.peer g.session_links → After s o (live c) drawn (loses drops now (record c.dialer { stage = stages.Attached; session = x }))
 unfolding loses
 lost_on s o c g drawn drops now x runs view =
     let e = x.peer.endpoint.epoch in
     rests s o (live c) g drawn (rest_or_drop drops now) (record c.dialer { attempt = 0; lost = now; pending = []; session = lose_session e x }) (stages.Resting now) tt refl refl
-    ((number_lose e x).1 runs) (keeps_lose e 0 A g.number g.present x g.peer g.lifted view) g.within
+    ((number_lose e x).1 runs) (keeps_lose e 0 A g.number g.present x g.peer g.session_links view) g.within
 
 pub loses_on : (s : Option Session) (o : Option Row) (c : Client) (g : Ground s o (live c)) → (drawn : ℕ) (drops : Bool) (now : ℕ)
     → After s o (live c) drawn (loses drops now (record c.dialer { stage = stages.Attached }))
@@ -145,7 +145,7 @@ ticks_on s o c g is drawn now = by (tick_refusal now c.dialer.session)
         let ticked = tick_session now c.dialer.session in
         after_if s o (live c) drawn (timeout_of now c.dialer.session) _ _
         (lost_on s o c g drawn true now ticked ((number_link (tick_session now) (link_tick now) c.dialer.session).1 g.runs)
-        (keeps_tick now 0 A g.number g.present c.dialer.session g.peer g.lifted g.view))
+        (keeps_tick now 0 A g.number g.present c.dialer.session g.peer g.session_links g.view))
         (called_on s o c g is drawn (rest_until (now + tick_span)) (tick_session now) (keeps_tick now) (link_tick now))
 
 -- ---- it leaves
@@ -163,9 +163,9 @@ leaves_on s o c g is drawn = by (leave_refusal c.dialer.session)
         let bytes = shown (leave old.peer.endpoint) in
         left_over s o (live c) g h drawn (ends dial_ends.Stopped) (record c.dialer { pending = c.dialer.pending ++ bytes; session = leave_session old }) dial_ends.Stopped refl
         ((number_leave old).1 g.runs)
-        (subst (λ (t : List ℕ). View 0 A g.number g.present (leave_session old).peer g.peer (put_number g.lifted g.number (written_to B t h.lift)))
+        (subst (λ (t : List ℕ). View 0 A g.number g.present (leave_session old).peer g.peer (put_number g.session_links g.number (written_to B t h.session_link)))
         (sym (ap (λ (t : List ℕ). t ++ bytes) is.none))
-        (link_left 0 A g.number g.present old g.peer g.lifted g.view h.lift h.lift_at))
+        (link_left 0 A g.number g.present old g.peer g.session_links g.view h.session_link h.session_link_at))
 
 -- ---- a frame
 
@@ -175,13 +175,13 @@ read_nothing x =
     ap (λ (n : ℕ). record { to_a = record { written = x.to_a.written; read = n }; to_b = x.to_b; is_cut = x.is_cut }) same
 
 -- the turn, in the view
-turn_view : (number present now : ℕ) (x : Session) (peer : Peer) (lifted : List Link) (l : Link) → View 0 A number present x.peer peer lifted → at_number lifted number ≡ Some l
+turn_view : (number present now : ℕ) (x : Session) (peer : Peer) (session_links : List Link) (l : Link) → View 0 A number present x.peer peer session_links → at_number session_links number ≡ Some l
     → feed_refusal x.peer.endpoint.epoch x ≡ None
-    → View 0 A number present (turn x.peer.endpoint.epoch [] now x).peer peer (put_number lifted number (written_to B (turn_answer x.peer.endpoint.epoch [] now x).out l))
-turn_view number present now x peer lifted l view at feeds =
+    → View 0 A number present (turn x.peer.endpoint.epoch [] now x).peer peer (put_number session_links number (written_to B (turn_answer x.peer.endpoint.epoch [] now x).out l))
+turn_view number present now x peer session_links l view at feeds =
     let e = x.peer.endpoint.epoch in
-    subst (λ (y : Link). View 0 A number present (turn e [] now x).peer peer (put_number lifted number (written_to B (turn_answer e [] now x).out y))) (read_nothing l)
-    (link_turned 0 A number present x peer lifted view 0 e now l at (omega arith) feeds)
+    subst (λ (y : Link). View 0 A number present (turn e [] now x).peer peer (put_number session_links number (written_to B (turn_answer e [] now x).out y))) (read_nothing l)
+    (link_turned 0 A number present x peer session_links view 0 e now l at (omega arith) feeds)
 
 turned_on : (s : Option Session) (o : Option Row) (c : Client) (g : Ground s o (live c)) → IsLive s o c g → (drawn now : ℕ)
     → turn_refusal c.dialer.session.peer.endpoint.epoch [] now c.dialer.session ≡ None → After s o (live c) drawn (turns_unless None now (record c.dialer { stage = stages.Attached }))
@@ -202,11 +202,11 @@ turned_on s o c g is drawn now admits = by answer.ended
     feeds : feed_refusal e old ≡ None
     feeds = turn_feeds e now old admits
 
-    view : View 0 A g.number g.present (turn e [] now old).peer g.peer (put_number g.lifted g.number (written_to B (c.dialer.pending ++ answer.out) is.here.lift))
+    view : View 0 A g.number g.present (turn e [] now old).peer g.peer (put_number g.session_links g.number (written_to B (c.dialer.pending ++ answer.out) is.here.session_link))
     view =
-        subst (λ (t : List ℕ). View 0 A g.number g.present (turn e [] now old).peer g.peer (put_number g.lifted g.number (written_to B t is.here.lift)))
+        subst (λ (t : List ℕ). View 0 A g.number g.present (turn e [] now old).peer g.peer (put_number g.session_links g.number (written_to B t is.here.session_link)))
         (sym (ap (λ (t : List ℕ). t ++ answer.out) is.none))
-        (turn_view g.number g.present now old g.peer g.lifted is.here.lift g.view is.here.lift_at feeds)
+        (turn_view g.number g.present now old g.peer g.session_links is.here.session_link g.view is.here.session_link_at feeds)
 
     by : (cause : Option Cause) → After s o (live c) drawn (after_turn answer cause (record d { stage = stages.Attached }))
     by None =
@@ -224,8 +224,8 @@ refused_on s o c g is drawn now (bad_ipc bad message) why =
     rests s o (live c) g drawn (ends (dial_ends.Ended BadIpc)) (record c.dialer { session = turn e [] now old }) (stages.Over (dial_ends.Ended BadIpc)) tt refl is.none
     ((number_turn e [] now old).1 g.runs)
     (subst (λ (ls : List Link). View 0 A g.number g.present (turn e [] now old).peer g.peer ls)
-    (written_nothing g.lifted g.number is.here.lift (turn_answer e [] now old).out is.here.lift_at quiet.1)
-    (turn_view g.number g.present now old g.peer g.lifted is.here.lift g.view is.here.lift_at quiet.0))
+    (written_nothing g.session_links g.number is.here.session_link (turn_answer e [] now old).out is.here.session_link_at quiet.1)
+    (turn_view g.number g.present now old g.peer g.session_links is.here.session_link g.view is.here.session_link_at quiet.0))
     g.within
 refused_on s o c g is drawn now (too_long stated) why = loses_on s o c g drawn true now
 refused_on s o c g is drawn now ids_spent why = over_on s o c g is drawn (ends dial_ends.IdsSpent) dial_ends.IdsSpent

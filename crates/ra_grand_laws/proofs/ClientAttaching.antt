@@ -1,4 +1,4 @@
--- A client that is accepted attaches its session: on the lifted link of the welcome, with the bytes that came behind the handshake.
+-- A client that is accepted attaches its session: on the session's link of the welcome, with the bytes that came behind the handshake.
 use Rattle.std.proofs.Common.{◌≡◌, ℕ, suc, ◌+◌, ◌-◌, ◌<◌, ◌≤◌, true, Option, Some, None, List, [], ◌++◌, length, take, drop, refl, ap, sym, ◌∙◌, subst, le_refl, arith}
 use Rattle.std.specs.Prelude.{slice_get}
 use Rattle.std.proofs.Math.Seq.{take-append-add}
@@ -24,8 +24,8 @@ use Rattle.ra_dial.specs.Links.{next_epoch, attaches_unless, attaches}
 use Rattle.ra_grand.specs.GrandClients.{GrandLink, Client}
 use Rattle.ra_grand.specs.Reached.{read_of}
 use Rattle.ra_grand_laws.specs.Parts.{Carries, IsWelcome, HasWelcome}
-use Rattle.ra_grand_laws.proofs.LiftedMoves.{backs_put, texts_put, nothing_up, whole_back}
-use Rattle.ra_grand_laws.proofs.ClientLinks.{Here, links_relifted}
+use Rattle.ra_grand_laws.proofs.SessionLinkMoves.{backs_put, texts_put, nothing_up, whole_back}
+use Rattle.ra_grand_laws.proofs.ClientLinks.{Here, links_renewed}
 use Rattle.ra_grand_laws.proofs.ClientSends.{attached_on, put_again, rests}
 use Rattle.ra_grand_laws.proofs.ClientGrounds.{Ground, After}
 
@@ -36,7 +36,7 @@ behind_read down read text le =
     let all : read ≡ down + (read - down) = omega (arith, le, length-take read text) in
     ap (λ (n : ℕ). drop down (take n text)) all ∙ drop-take down (read - down) text
 
--- they are a front of the lifted link
+-- they are a front of the session's link
 chunk_is : (w : Welcome) (l x : Link) (chunk : List ℕ) → Carries w l x → w.down ≤ length (read_of l.to_a) → chunk ≡ w.pause ++ drop w.down (read_of l.to_a)
     → take (length w.pause + (l.to_a.read - w.down)) x.to_a.written ≡ chunk
 chunk_is w l x chunk carries le is =
@@ -48,13 +48,13 @@ chunk_is w l x chunk carries le is =
 
 attached_new : (s : Option Session) (o : Option Row) (c : Client) (g : Ground s o c) (n : ℕ) (l : GrandLink) → length c.links ≡ suc n → slice_get c.links n ≡ Some l
     → g.attached < length c.links → (drawn : ℕ) (d : Dialer) (e now : ℕ) (chunk : List ℕ) (w : Welcome) → l.server.welcome ≡ Some w
-    → d.settings ≡ c.dialer.settings → d.pending ≡ [] → IsRunning d.session → View 0 A g.number g.present d.session.peer g.peer g.lifted
+    → d.settings ≡ c.dialer.settings → d.pending ≡ [] → IsRunning d.session → View 0 A g.number g.present d.session.peer g.peer g.session_links
     → attach_refusal e d.session ≡ None → w.down ≤ length (read_of l.link.to_a) → chunk ≡ w.pause ++ drop w.down (read_of l.link.to_a)
     → After s o c drawn (quiet, record d { stage = stages.Attached; attempt = 0; session = attach e chunk now d.session })
 attached_new s o c g n l count at within drawn d e now chunk w is settings none runs view admits le chunk_of =
     let keeps = g.links.each n l at in
-    let has : IsWelcome c.key (g.draws n) g.lifted l w = subst (λ (x : Option Welcome). HasWelcome c.key (g.draws n) g.lifted l x) is keeps.welcome in
-    let x = has.lift in
+    let has : IsWelcome c.key (g.draws n) g.session_links l w = subst (λ (x : Option Welcome). HasWelcome c.key (g.draws n) g.session_links l x) is keeps.welcome in
+    let x = has.session_link in
     let carries = has.carries in
     let r = l.link.to_a.read in
     let k = length w.pause + (r - w.down) in
@@ -67,36 +67,36 @@ attached_new s o c g n l count at within drawn d e now chunk w is settings none 
     let session = attach e chunk now d.session in
     let went = number_attach e chunk now d.session runs admits in
     let on = attach_on e chunk now d.session runs admits in
-    let lift = read_on A k x in
-    let lifted = put_number g.lifted w.epoch lift in
-    let attached_view : View 0 A w.epoch g.present session.peer g.peer lifted =
-    subst (λ (t : List ℕ). View 0 A w.epoch g.present (attach e t now d.session).peer g.peer lifted) (chunk_is w l.link x chunk carries le chunk_of)
-    (link_attached 0 A g.number g.present d.session g.peer g.lifted view w.epoch k e now x later has.is_at fits runs admits) in
-    let backs = backs_put g.lifted w.epoch x lift has.is_at refl refl (λ kept. kept) in
+    let session_link = read_on A k x in
+    let session_links = put_number g.session_links w.epoch session_link in
+    let attached_view : View 0 A w.epoch g.present session.peer g.peer session_links =
+    subst (λ (t : List ℕ). View 0 A w.epoch g.present (attach e t now d.session).peer g.peer session_links) (chunk_is w l.link x chunk carries le chunk_of)
+    (link_attached 0 A g.number g.present d.session g.peer g.session_links view w.epoch k e now x later has.is_at fits runs admits) in
+    let backs = backs_put g.session_links w.epoch x session_link has.is_at refl refl (λ kept. kept) in
     let between = record c { dialer = record c.dialer { session = session } } in
     let ground : Ground s o between = record {
       token = g.token;
       kind = g.kind;
       settings = g.settings;
       runs = went.2;
-      lifted = lifted;
+      session_links = session_links;
       number = w.epoch;
       present = g.present;
       peer = g.peer;
       view = attached_view;
       server = g.server;
-      whole = whole_back g.peer g.present g.lifted lifted backs g.whole;
-      count = length-put_number g.lifted w.epoch lift ∙ g.count;
+      whole = whole_back g.peer g.present g.session_links session_links backs g.whole;
+      count = length-put_number g.session_links w.epoch session_link ∙ g.count;
       both = g.both;
       draws = g.draws;
       attached = length c.links;
       links =
-          links_relifted c.key g.draws g.lifted lifted g.present g.number g.attached w.epoch (length c.links) c.links (texts_put g.lifted w.epoch x lift has.is_at refl refl refl) backs
+          links_renewed c.key g.draws g.session_links session_links g.present g.number g.attached w.epoch (length c.links) c.links (texts_put g.session_links w.epoch x session_link has.is_at refl refl refl) backs
           (λ m y v there past told. let low = get_within c.links m y there in absurd (omega (arith, low, past)))
           g.links;
       within = le_refl (length c.links);
     } in
-    let here : Here lifted w.epoch c.links = record {
+    let here : Here session_links w.epoch c.links = record {
       place = n;
       link = l;
       count = count;
@@ -104,22 +104,22 @@ attached_new s o c g n l count at within drawn d e now chunk w is settings none 
       welcome = w;
       is_there = is;
       is_number = refl;
-      lift = lift;
-      lift_at = put_same g.lifted w.epoch x lift has.is_at;
+      session_link = session_link;
+      session_link_at = put_same g.session_links w.epoch x session_link has.is_at;
       carries = record { up = carries.up; down = carries.down; cut = carries.cut };
     } in
     let unread : x.to_a.read ≡ 0 = view.reads.fresh w.epoch x has.is_at later in
     attached_on s o between ground here drawn quiet (record d { attempt = 0; session = session }) refl settings went.2
     (subst (λ (ls : List Link). View 0 A w.epoch g.present session.peer g.peer ls)
     (sym
-    (put_again g.lifted w.epoch lift (written_to B d.pending lift)
-    ∙ ap (λ (t : List ℕ). put_number g.lifted w.epoch (written_to B t lift)) none ∙ ap (λ (y : Link). put_number g.lifted w.epoch y) (nothing_up lift)))
+    (put_again g.session_links w.epoch session_link (written_to B d.pending session_link)
+    ∙ ap (λ (t : List ℕ). put_number g.session_links w.epoch (written_to B t session_link)) none ∙ ap (λ (y : Link). put_number g.session_links w.epoch y) (nothing_up session_link)))
     attached_view)
     (λ going. (on going).1) took (λ going. omega (arith, unread, took))
 
 pub attaches_on : (s : Option Session) (o : Option Row) (c : Client) (g : Ground s o c) (n : ℕ) (l : GrandLink) → length c.links ≡ suc n → slice_get c.links n ≡ Some l
     → g.attached < length c.links → (drawn : ℕ) (d : Dialer) (now : ℕ) (chunk : List ℕ) (w : Welcome) → l.server.welcome ≡ Some w
-    → d.settings ≡ c.dialer.settings → d.pending ≡ [] → IsRunning d.session → View 0 A g.number g.present d.session.peer g.peer g.lifted
+    → d.settings ≡ c.dialer.settings → d.pending ≡ [] → IsRunning d.session → View 0 A g.number g.present d.session.peer g.peer g.session_links
     → w.down ≤ length (read_of l.link.to_a) → chunk ≡ w.pause ++ drop w.down (read_of l.link.to_a) → After s o c drawn (attaches chunk now d)
 unfolding attaches fails
 attaches_on s o c g n l count at within drawn d now chunk w is settings none runs view le chunk_of = by (attach_refusal (next_epoch (epoch d)) d.session) refl

@@ -19,27 +19,27 @@ use Rattle.ra_grand.specs.Grands.{with_link}
 use Rattle.ra_grand_laws.specs.Parts.{Drawn, HasWelcome, Shakes, IsAttached, StageKeeps, PartHolds}
 use Rattle.ra_grand_laws.proofs.ClientGrounds.{ground_of, part_made}
 use Rattle.ra_grand_laws.proofs.ClientLinks.{links_cut, last_put}
-use Rattle.ra_grand_laws.proofs.LiftedMoves.{ReadsBack, CutBy, cut_backs, cut_reads}
+use Rattle.ra_grand_laws.proofs.SessionLinkMoves.{ReadsBack, CutBy, cut_backs, cut_reads}
 
--- the lifted links after it
-record Cut (owner : Key) (d : Drawn) (number present : ℕ) (p peer : Peer) (lifted : List Link) (l : GrandLink) : Type 0 where
+-- the session's links after it
+record Cut (owner : Key) (d : Drawn) (number present : ℕ) (p peer : Peer) (session_links : List Link) (l : GrandLink) : Type 0 where
   new : List Link
-  cut : CutBy owner d lifted l l.server.welcome new
+  cut : CutBy owner d session_links l l.server.welcome new
   view : View 0 A number present p peer new
-  long : length new ≡ length lifted
+  long : length new ≡ length session_links
 
-cut_by : (owner : Key) (d : Drawn) (number present : ℕ) (p peer : Peer) (lifted : List Link) (l : GrandLink) (o : Option Welcome) → l.server.welcome ≡ o
-    → HasWelcome owner d lifted l o → View 0 A number present p peer lifted → Cut owner d number present p peer lifted l
-cut_by owner d number present p peer lifted l None is has view =
-    record { new = lifted; cut = subst (λ (o : Option Welcome). CutBy owner d lifted l o lifted) (sym is) refl; view = view; long = refl }
-cut_by owner d number present p peer lifted l (Some w) is has view =
-    let x = has.lift in
-    let new = put_number lifted w.epoch (cut_off x) in
+cut_by : (owner : Key) (d : Drawn) (number present : ℕ) (p peer : Peer) (session_links : List Link) (l : GrandLink) (o : Option Welcome) → l.server.welcome ≡ o
+    → HasWelcome owner d session_links l o → View 0 A number present p peer session_links → Cut owner d number present p peer session_links l
+cut_by owner d number present p peer session_links l None is has view =
+    record { new = session_links; cut = subst (λ (o : Option Welcome). CutBy owner d session_links l o session_links) (sym is) refl; view = view; long = refl }
+cut_by owner d number present p peer session_links l (Some w) is has view =
+    let x = has.session_link in
+    let new = put_number session_links w.epoch (cut_off x) in
     record {
       new = new;
-      cut = subst (λ (o : Option Welcome). CutBy owner d lifted l o new) (sym is) (x, has.is_at, refl);
-      view = view_cut 0 A number present p peer lifted w.epoch x view has.is_at;
-      long = length-put_number lifted w.epoch (cut_off x);
+      cut = subst (λ (o : Option Welcome). CutBy owner d session_links l o new) (sym is) (x, has.is_at, refl);
+      view = view_cut 0 A number present p peer session_links w.epoch x view has.is_at;
+      long = length-put_number session_links w.epoch (cut_off x);
     }
 
 -- ---- how far the dialer is
@@ -99,10 +99,10 @@ unfolding ground_of
 part_cut s o c n l at p =
     let keeps = p.links n l at in
     let d = p.draws n in
-    let by = cut_by c.key d p.number p.present c.dialer.session.peer p.peer p.lifted l l.server.welcome refl keeps.welcome p.view in
+    let by = cut_by c.key d p.number p.present c.dialer.session.peer p.peer p.session_links l l.server.welcome refl keeps.welcome p.view in
     let g = ground_of s o c p in
-    let back = cut_reads c.key d p.lifted by.new l l.server.welcome by.cut in
+    let back = cut_reads c.key d p.session_links by.new l l.server.welcome by.cut in
     part_made s o c g c.dialer c.drawn (slice_set c.links n (record l { link = cut_off l.link })) by.new p.number p.attached refl p.pending p.runs by.view by.long
-    (cut_backs c.key d p.lifted by.new l l.server.welcome by.cut)
-    (links_cut c.key p.draws p.lifted by.new p.present p.number p.attached c.links n l at by.cut g.links)
-    (stage_cut c p.draws p.lifted by.new p.number p.attached n l c.dialer.stage at back p.stage)
+    (cut_backs c.key d p.session_links by.new l l.server.welcome by.cut)
+    (links_cut c.key p.draws p.session_links by.new p.present p.number p.attached c.links n l at by.cut g.links)
+    (stage_cut c p.draws p.session_links by.new p.number p.attached n l c.dialer.stage at back p.stage)

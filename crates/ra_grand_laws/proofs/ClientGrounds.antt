@@ -21,11 +21,11 @@ use Rattle.ra_dial.specs.Dialers.{Dialer}
 use Rattle.ra_grand.specs.GrandClients.{GrandLink, Client, sends}
 use Rattle.ra_grand.specs.SetUps.{settings_for}
 use Rattle.ra_grand_laws.specs.Parts.{Drawn, LinkKeeps, StageKeeps, IsServer, WritesWhole, PartHolds}
-use Rattle.ra_grand_laws.proofs.LiftedMoves.{Backs, whole_back}
+use Rattle.ra_grand_laws.proofs.SessionLinkMoves.{Backs, whole_back}
 
 -- the links of a client
-pub record LinksKeep (owner : Key) (draws : ℕ → Drawn) (lifted : List Link) (present number attached : ℕ) (links : List GrandLink) : Type 0 where
-  pub each : (n : ℕ) (l : GrandLink) → slice_get links n ≡ Some l → LinkKeeps owner (draws n) lifted present l
+pub record LinksKeep (owner : Key) (draws : ℕ → Drawn) (session_links : List Link) (present number attached : ℕ) (links : List GrandLink) : Type 0 where
+  pub each : (n : ℕ) (l : GrandLink) → slice_get links n ≡ Some l → LinkKeeps owner (draws n) session_links present l
   pub apart : (n m : ℕ) (k l : GrandLink) (v w : Welcome) → slice_get links n ≡ Some k → slice_get links m ≡ Some l
       → k.server.welcome ≡ Some v → l.server.welcome ≡ Some w → v.epoch ≡ w.epoch → n ≡ m
   pub later : (n : ℕ) (l : GrandLink) (w : Welcome) → slice_get links n ≡ Some l → attached ≤ n → l.server.welcome ≡ Some w → number < w.epoch
@@ -36,27 +36,27 @@ pub record Ground (session : Option Session) (kept : Option Row) (c : Client) : 
   pub kind : c.key.kind ≢ Tunnel
   pub settings : c.dialer.settings ≡ settings_for c.key
   pub runs : IsRunning c.dialer.session
-  pub lifted : List Link
+  pub session_links : List Link
   pub number : ℕ
   pub present : ℕ
   pub peer : Peer
-  pub view : View 0 A number present c.dialer.session.peer peer lifted
+  pub view : View 0 A number present c.dialer.session.peer peer session_links
   pub server : IsServer session peer present
-  pub whole : (x : Link) → at_number lifted present ≡ Some x → WritesWhole peer x
-  pub count : length lifted ≡ epoch_of kept
+  pub whole : (x : Link) → at_number session_links present ≡ Some x → WritesWhole peer x
+  pub count : length session_links ≡ epoch_of kept
   pub both : is_some session ≡ is_some kept
   pub draws : ℕ → Drawn
   pub attached : ℕ
-  pub links : LinksKeep c.key draws lifted present number attached c.links
+  pub links : LinksKeep c.key draws session_links present number attached c.links
   pub within : attached ≤ length c.links
 
-pub stage_within : (c : Client) (draws : ℕ → Drawn) (lifted : List Link) (number attached : ℕ) (stage : Stage)
-    → StageKeeps c draws lifted number attached stage → attached ≤ length c.links
-stage_within c draws lifted number attached (stages.Resting until) keeps = keeps
-stage_within c draws lifted number attached (stages.Calling since) keeps = keeps
-stage_within c draws lifted number attached (stages.Shaking since s) keeps = let low = keeps.0 in omega (arith, low)
-stage_within c draws lifted number attached stages.Attached keeps = let all = keeps.0 in omega (arith, all)
-stage_within c draws lifted number attached (stages.Over end) keeps = keeps
+pub stage_within : (c : Client) (draws : ℕ → Drawn) (session_links : List Link) (number attached : ℕ) (stage : Stage)
+    → StageKeeps c draws session_links number attached stage → attached ≤ length c.links
+stage_within c draws session_links number attached (stages.Resting until) keeps = keeps
+stage_within c draws session_links number attached (stages.Calling since) keeps = keeps
+stage_within c draws session_links number attached (stages.Shaking since s) keeps = let low = keeps.0 in omega (arith, low)
+stage_within c draws session_links number attached stages.Attached keeps = let all = keeps.0 in omega (arith, all)
+stage_within c draws session_links number attached (stages.Over end) keeps = keeps
 
 unfoldable pub ground_of : (s : Option Session) (o : Option Row) (c : Client) → PartHolds s o c → Ground s o c
 ground_of s o c part = record {
@@ -64,7 +64,7 @@ ground_of s o c part = record {
   kind = part.kind;
   settings = part.settings;
   runs = part.runs;
-  lifted = part.lifted;
+  session_links = part.session_links;
   number = part.number;
   present = part.present;
   peer = part.peer;
@@ -76,29 +76,29 @@ ground_of s o c part = record {
   draws = part.draws;
   attached = part.attached;
   links = record { each = part.links; apart = part.apart; later = part.later };
-  within = stage_within c part.draws part.lifted part.number part.attached c.dialer.stage part.stage;
+  within = stage_within c part.draws part.session_links part.number part.attached c.dialer.stage part.stage;
 }
 
 -- the part of a client with another dialer and other links
-pub part_made : (s : Option Session) (o : Option Row) (c : Client) (g : Ground s o c) (dialer : Dialer) (drawn : ℕ) (links : List GrandLink) (lifted : List Link) (number attached : ℕ)
+pub part_made : (s : Option Session) (o : Option Row) (c : Client) (g : Ground s o c) (dialer : Dialer) (drawn : ℕ) (links : List GrandLink) (session_links : List Link) (number attached : ℕ)
     → dialer.settings ≡ c.dialer.settings → dialer.pending ≡ [] → IsRunning dialer.session
-    → View 0 A number g.present dialer.session.peer g.peer lifted → length lifted ≡ length g.lifted → Backs g.lifted lifted
-    → LinksKeep c.key g.draws lifted g.present number attached links
-    → StageKeeps (record { key = c.key; dialer = dialer; drawn = drawn; links = links }) g.draws lifted number attached dialer.stage
+    → View 0 A number g.present dialer.session.peer g.peer session_links → length session_links ≡ length g.session_links → Backs g.session_links session_links
+    → LinksKeep c.key g.draws session_links g.present number attached links
+    → StageKeeps (record { key = c.key; dialer = dialer; drawn = drawn; links = links }) g.draws session_links number attached dialer.stage
     → PartHolds s o (record { key = c.key; dialer = dialer; drawn = drawn; links = links })
-part_made s o c g dialer drawn links lifted number attached settings none runs view long back keeps stage = record {
+part_made s o c g dialer drawn links session_links number attached settings none runs view long back keeps stage = record {
   token = g.token;
   kind = g.kind;
   settings = settings ∙ g.settings;
   pending = none;
   runs = runs;
-  lifted = lifted;
+  session_links = session_links;
   number = number;
   present = g.present;
   peer = g.peer;
   view = view;
   server = g.server;
-  whole = whole_back g.peer g.present g.lifted lifted back g.whole;
+  whole = whole_back g.peer g.present g.session_links session_links back g.whole;
   count = long ∙ g.count;
   both = g.both;
   draws = g.draws;

@@ -53,7 +53,7 @@ more_ground s o c g = record {
   kind = g.kind;
   settings = g.settings;
   runs = g.runs;
-  lifted = g.lifted;
+  session_links = g.session_links;
   number = g.number;
   present = g.present;
   peer = g.peer;
@@ -64,7 +64,7 @@ more_ground s o c g = record {
   both = g.both;
   draws = draws_with (length c.links) (drawn_next c) g.draws;
   attached = g.attached;
-  links = links_fresh c g.draws g.lifted g.present g.number g.attached g.settings g.links;
+  links = links_fresh c g.draws g.session_links g.present g.number g.attached g.settings g.links;
   within = let low = g.within in omega (arith, low, length-append c.links (fresh_link c ∷ []));
 }
 
@@ -138,7 +138,7 @@ part_new key now token kind =
       settings = refl;
       pending = refl;
       runs = new.1;
-      lifted = [];
+      session_links = [];
       number = 0;
       present = 0;
       peer = new_peer 0 now false;

@@ -10,7 +10,7 @@ use Rattle.ra_grand.specs.GrandClients.{GrandLink, writes_up}
 use Rattle.ra_grand.specs.Lasts.{with_last_of, with_last}
 use Rattle.ra_grand_laws.specs.Parts.{Drawn, Carries, IsWelcome, HasWelcome, LinkKeeps, HasLast}
 use Rattle.ra_grand_laws.proofs.ClientGrounds.{LinksKeep}
-use Rattle.ra_grand_laws.proofs.LiftedMoves.{Backs, SameTexts, CutBy, link_relifted, link_cut, link_down, link_up}
+use Rattle.ra_grand_laws.proofs.SessionLinkMoves.{Backs, SameTexts, CutBy, link_renewed, link_cut, link_down, link_up}
 use Rattle.ra_grand_laws.proofs.LinksStay.{link_elsewhere}
 use Rattle.ra_grand_laws.proofs.Lists.{none_there, there_is, same_or_not, get_same, get_other}
 
@@ -68,55 +68,55 @@ links_put owner draws old new present number attached links n l k at same holds 
         subst (λ (i : ℕ). LinkKeeps owner (draws i) new present x) here (subst (λ (y : GrandLink). LinkKeeps owner (draws n) new present y) both holds)
     by m x is (inr not) = others m x not (sym (get_other links n m k not) ∙ is)
 
--- while the lifted links stay
-pub links_put_one : (owner : Key) (draws : ℕ → Drawn) (lifted : List Link) (present number attached : ℕ) (links : List GrandLink) (n : ℕ) (l k : GrandLink)
-    → slice_get links n ≡ Some l → k.server.welcome ≡ l.server.welcome → LinkKeeps owner (draws n) lifted present k
-    → LinksKeep owner draws lifted present number attached links → LinksKeep owner draws lifted present number attached (slice_set links n k)
-links_put_one owner draws lifted present number attached links n l k at same holds keep =
-    links_put owner draws lifted lifted present number attached links n l k at same holds (λ m x not is. keep.each m x is) keep
+-- while the session's links stay
+pub links_put_one : (owner : Key) (draws : ℕ → Drawn) (session_links : List Link) (present number attached : ℕ) (links : List GrandLink) (n : ℕ) (l k : GrandLink)
+    → slice_get links n ≡ Some l → k.server.welcome ≡ l.server.welcome → LinkKeeps owner (draws n) session_links present k
+    → LinksKeep owner draws session_links present number attached links → LinksKeep owner draws session_links present number attached (slice_set links n k)
+links_put_one owner draws session_links present number attached links n l k at same holds keep =
+    links_put owner draws session_links session_links present number attached links n l k at same holds (λ m x not is. keep.each m x is) keep
 
--- the lifted links are read further, and another one is the client's last
-pub links_relifted : (owner : Key) (draws : ℕ → Drawn) (old new : List Link) (present number attached number' attached' : ℕ) (links : List GrandLink) → SameTexts old new → Backs old new
+-- the session's links are read further, and another one is the client's last
+pub links_renewed : (owner : Key) (draws : ℕ → Drawn) (old new : List Link) (present number attached number' attached' : ℕ) (links : List GrandLink) → SameTexts old new → Backs old new
     → ((n : ℕ) (l : GrandLink) (w : Welcome) → slice_get links n ≡ Some l → attached' ≤ n → l.server.welcome ≡ Some w → number' < w.epoch)
     → LinksKeep owner draws old present number attached links → LinksKeep owner draws new present number' attached' links
-links_relifted owner draws old new present number attached number' attached' links same back later keep = record {
-  each = λ n l is. link_relifted owner (draws n) old new present l same back (keep.each n l is);
+links_renewed owner draws old new present number attached number' attached' links same back later keep = record {
+  each = λ n l is. link_renewed owner (draws n) old new present l same back (keep.each n l is);
   apart = keep.apart;
   later = later;
 }
 
-pub links_down : (owner : Key) (draws : ℕ → Drawn) (lifted : List Link) (present number attached : ℕ) (links : List GrandLink) (n k : ℕ) (l : GrandLink)
-    → slice_get links n ≡ Some l → k ≤ length (readable A l.link) → LinksKeep owner draws lifted present number attached links
-    → LinksKeep owner draws lifted present number attached (slice_set links n (record l { link = read_on A k l.link }))
-links_down owner draws lifted present number attached links n k l at fits keep =
-    links_put_one owner draws lifted present number attached links n l (record l { link = read_on A k l.link }) at refl
-    (link_down owner (draws n) lifted present k l fits (keep.each n l at)) keep
+pub links_down : (owner : Key) (draws : ℕ → Drawn) (session_links : List Link) (present number attached : ℕ) (links : List GrandLink) (n k : ℕ) (l : GrandLink)
+    → slice_get links n ≡ Some l → k ≤ length (readable A l.link) → LinksKeep owner draws session_links present number attached links
+    → LinksKeep owner draws session_links present number attached (slice_set links n (record l { link = read_on A k l.link }))
+links_down owner draws session_links present number attached links n k l at fits keep =
+    links_put_one owner draws session_links present number attached links n l (record l { link = read_on A k l.link }) at refl
+    (link_down owner (draws n) session_links present k l fits (keep.each n l at)) keep
 
 -- another link keeps while the one of a welcome changes
-elsewhere : (owner : Key) (draws : ℕ → Drawn) (lifted : List Link) (present number attached : ℕ) (links : List GrandLink) (n : ℕ) (l : GrandLink) (w : Welcome) (x : Link)
-    → slice_get links n ≡ Some l → l.server.welcome ≡ Some w → LinksKeep owner draws lifted present number attached links
-    → (m : ℕ) (y : GrandLink) → (n ≡ m → ⊥) → slice_get links m ≡ Some y → LinkKeeps owner (draws m) (put_number lifted w.epoch x) present y
-elsewhere owner draws lifted present number attached links n l w x at is keep m y not there =
-    link_elsewhere owner (draws m) lifted present present w.epoch x y (λ v has same. not (keep.apart n m l y w v at there is has same)) (λ v has here. refl) (keep.each m y there)
+elsewhere : (owner : Key) (draws : ℕ → Drawn) (session_links : List Link) (present number attached : ℕ) (links : List GrandLink) (n : ℕ) (l : GrandLink) (w : Welcome) (x : Link)
+    → slice_get links n ≡ Some l → l.server.welcome ≡ Some w → LinksKeep owner draws session_links present number attached links
+    → (m : ℕ) (y : GrandLink) → (n ≡ m → ⊥) → slice_get links m ≡ Some y → LinkKeeps owner (draws m) (put_number session_links w.epoch x) present y
+elsewhere owner draws session_links present number attached links n l w x at is keep m y not there =
+    link_elsewhere owner (draws m) session_links present present w.epoch x y (λ v has same. not (keep.apart n m l y w v at there is has same)) (λ v has here. refl) (keep.each m y there)
 
-pub links_cut : (owner : Key) (draws : ℕ → Drawn) (lifted new : List Link) (present number attached : ℕ) (links : List GrandLink) (n : ℕ) (l : GrandLink)
-    → slice_get links n ≡ Some l → CutBy owner (draws n) lifted l l.server.welcome new → LinksKeep owner draws lifted present number attached links
+pub links_cut : (owner : Key) (draws : ℕ → Drawn) (session_links new : List Link) (present number attached : ℕ) (links : List GrandLink) (n : ℕ) (l : GrandLink)
+    → slice_get links n ≡ Some l → CutBy owner (draws n) session_links l l.server.welcome new → LinksKeep owner draws session_links present number attached links
     → LinksKeep owner draws new present number attached (slice_set links n (record l { link = cut_off l.link }))
-links_cut owner draws lifted new present number attached links n l at cut keep =
-    links_put owner draws lifted new present number attached links n l (record l { link = cut_off l.link }) at refl
-    (link_cut owner (draws n) lifted new present l cut (keep.each n l at)) (λ m y not there. by l.server.welcome refl cut m y not there) keep
+links_cut owner draws session_links new present number attached links n l at cut keep =
+    links_put owner draws session_links new present number attached links n l (record l { link = cut_off l.link }) at refl
+    (link_cut owner (draws n) session_links new present l cut (keep.each n l at)) (λ m y not there. by l.server.welcome refl cut m y not there) keep
   where
-    by : (o : Option Welcome) → l.server.welcome ≡ o → CutBy owner (draws n) lifted l o new
+    by : (o : Option Welcome) → l.server.welcome ≡ o → CutBy owner (draws n) session_links l o new
         → (m : ℕ) (y : GrandLink) → (n ≡ m → ⊥) → slice_get links m ≡ Some y → LinkKeeps owner (draws m) new present y
     by None is stays m y not there = subst (λ (ls : List Link). LinkKeeps owner (draws m) ls present y) (sym stays) (keep.each m y there)
     by (Some w) is put m y not there =
         subst (λ (ls : List Link). LinkKeeps owner (draws m) ls present y) (sym put.2)
-        (elsewhere owner draws lifted present number attached links n l w (cut_off put.0) at is keep m y not there)
+        (elsewhere owner draws session_links present number attached links n l w (cut_off put.0) at is keep m y not there)
 
 -- ---- the last link of an attached client
 
--- the last link, and the lifted one that the client is attached on
-pub record Here (lifted : List Link) (number : ℕ) (links : List GrandLink) : Type 0 where
+-- the last link, and the session's one that the client is attached on
+pub record Here (session_links : List Link) (number : ℕ) (links : List GrandLink) : Type 0 where
   pub place : ℕ
   pub link : GrandLink
   pub count : length links ≡ suc place
@@ -124,14 +124,14 @@ pub record Here (lifted : List Link) (number : ℕ) (links : List GrandLink) : T
   pub welcome : Welcome
   pub is_there : link.server.welcome ≡ Some welcome
   pub is_number : welcome.epoch ≡ number
-  pub lift : Link
-  pub lift_at : at_number lifted number ≡ Some lift
-  pub carries : Carries welcome link.link lift
+  pub session_link : Link
+  pub session_link_at : at_number session_links number ≡ Some session_link
+  pub carries : Carries welcome link.link session_link
 
-unfoldable pub here_of : (owner : Key) (draws : ℕ → Drawn) (lifted : List Link) (present number attached : ℕ) (links : List GrandLink) → LinksKeep owner draws lifted present number attached links
-    → (n : ℕ) (l : GrandLink) → length links ≡ suc n → slice_get links n ≡ Some l → (w : Welcome) → l.server.welcome ≡ Some w → w.epoch ≡ number → Here lifted number links
-here_of owner draws lifted present number attached links keep n l count at w is is_number =
-    let has : IsWelcome owner (draws n) lifted l w = subst (λ (o : Option Welcome). HasWelcome owner (draws n) lifted l o) is (keep.each n l at).welcome in
+unfoldable pub here_of : (owner : Key) (draws : ℕ → Drawn) (session_links : List Link) (present number attached : ℕ) (links : List GrandLink) → LinksKeep owner draws session_links present number attached links
+    → (n : ℕ) (l : GrandLink) → length links ≡ suc n → slice_get links n ≡ Some l → (w : Welcome) → l.server.welcome ≡ Some w → w.epoch ≡ number → Here session_links number links
+here_of owner draws session_links present number attached links keep n l count at w is is_number =
+    let has : IsWelcome owner (draws n) session_links l w = subst (λ (o : Option Welcome). HasWelcome owner (draws n) session_links l o) is (keep.each n l at).welcome in
     record {
       place = n;
       link = l;
@@ -140,23 +140,23 @@ here_of owner draws lifted present number attached links keep n l count at w is 
       welcome = w;
       is_there = is;
       is_number = is_number;
-      lift = has.lift;
-      lift_at = ap (λ (e : ℕ). at_number lifted e) (sym is_number) ∙ has.is_at;
+      session_link = has.session_link;
+      session_link_at = ap (λ (e : ℕ). at_number session_links e) (sym is_number) ∙ has.is_at;
       carries = has.carries;
     }
 
 -- these bytes are written on both
-pub links_up : (owner : Key) (draws : ℕ → Drawn) (lifted : List Link) (present number attached : ℕ) (links : List GrandLink) (h : Here lifted number links) (bytes : List ℕ)
-    → LinksKeep owner draws lifted present number attached links
-    → LinksKeep owner draws (put_number lifted number (written_to B bytes h.lift)) present number attached (slice_set links h.place (writes_up bytes h.link))
-links_up owner draws lifted present number attached links h bytes keep =
+pub links_up : (owner : Key) (draws : ℕ → Drawn) (session_links : List Link) (present number attached : ℕ) (links : List GrandLink) (h : Here session_links number links) (bytes : List ℕ)
+    → LinksKeep owner draws session_links present number attached links
+    → LinksKeep owner draws (put_number session_links number (written_to B bytes h.session_link)) present number attached (slice_set links h.place (writes_up bytes h.link))
+links_up owner draws session_links present number attached links h bytes keep =
     let w = h.welcome in
-    let new = put_number lifted w.epoch (written_to B bytes h.lift) in
-    let lift_at : at_number lifted w.epoch ≡ Some h.lift = ap (λ (e : ℕ). at_number lifted e) h.is_number ∙ h.lift_at in
-    subst (λ (e : ℕ). LinksKeep owner draws (put_number lifted e (written_to B bytes h.lift)) present number attached (slice_set links h.place (writes_up bytes h.link))) h.is_number
-    (links_put owner draws lifted new present number attached links h.place h.link (writes_up bytes h.link) h.at refl
-    (link_up owner (draws h.place) lifted present h.link bytes w h.lift h.is_there lift_at (keep.each h.place h.link h.at))
-    (elsewhere owner draws lifted present number attached links h.place h.link w (written_to B bytes h.lift) h.at h.is_there keep) keep)
+    let new = put_number session_links w.epoch (written_to B bytes h.session_link) in
+    let session_link_at : at_number session_links w.epoch ≡ Some h.session_link = ap (λ (e : ℕ). at_number session_links e) h.is_number ∙ h.session_link_at in
+    subst (λ (e : ℕ). LinksKeep owner draws (put_number session_links e (written_to B bytes h.session_link)) present number attached (slice_set links h.place (writes_up bytes h.link))) h.is_number
+    (links_put owner draws session_links new present number attached links h.place h.link (writes_up bytes h.link) h.at refl
+    (link_up owner (draws h.place) session_links present h.link bytes w h.session_link h.is_there session_link_at (keep.each h.place h.link h.at))
+    (elsewhere owner draws session_links present number attached links h.place h.link w (written_to B bytes h.session_link) h.at h.is_there keep) keep)
 
 -- ---- what holds of the last link
 

@@ -38,10 +38,10 @@ read_front out l b =
     ∙ ap (λ (t : List ℕ). t ++ b.rest) (take-append-drop l.to_a.read l.to_a.written) ∙ sym b.same
 
 -- where a welcome stands, all was said
-all_was_said : (owner : Key) (d : Drawn) (lifted : List Link) (l : GrandLink) (t : ShakingState) (k : Shakes owner d t l) (w : Welcome) → l.server.welcome ≡ Some w
-    → HasWelcome owner d lifted l l.server.welcome → (t.key ≡ None) × (t.shake.has_answered ≡ true)
-all_was_said owner d lifted l t k w is welcome =
-    let has : IsWelcome owner d lifted l w = subst (λ (o : Option Welcome). HasWelcome owner d lifted l o) is welcome in
+all_was_said : (owner : Key) (d : Drawn) (session_links : List Link) (l : GrandLink) (t : ShakingState) (k : Shakes owner d t l) (w : Welcome) → l.server.welcome ≡ Some w
+    → HasWelcome owner d session_links l l.server.welcome → (t.key ≡ None) × (t.shake.has_answered ≡ true)
+all_was_said owner d session_links l t k w is welcome =
+    let has : IsWelcome owner d session_links l w = subst (λ (o : Option Welcome). HasWelcome owner d session_links l o) is welcome in
     let place = has.place in
     let there = has.there in
     said_all owner d.reconnection d.key d.own k.text has.theirs t.key t.shake.has_answered k.said
@@ -49,7 +49,7 @@ all_was_said owner d lifted l t k w is welcome =
 
 looks_after : (s : Option Session) (o : Option Row) (c : Client) (g : Ground s o c) (n : ℕ) (l : GrandLink) → length c.links ≡ suc n → slice_get c.links n ≡ Some l
     → g.attached < length c.links → (drawn : ℕ) (d : Dialer) (since now : ℕ) (t new : ShakingState) (k : Shakes c.key (g.draws n) t l) (look : Look)
-    → d.settings ≡ c.dialer.settings → d.pending ≡ [] → IsRunning d.session → View 0 A g.number g.present d.session.peer g.peer g.lifted
+    → d.settings ≡ c.dialer.settings → d.pending ≡ [] → IsRunning d.session → View 0 A g.number g.present d.session.peer g.peer g.session_links
     → LooksTo c.key (g.draws n).reconnection (g.draws n).key (g.draws n).own (read_of l.link.to_a) l.server.welcome t look new
     → (t.key ≡ None → t.shake.has_answered ≡ true → IsQuiet look)
     → After s o c drawn (after_look since look new now (record d { stage = stages.Shaking since t }))
@@ -61,7 +61,7 @@ looks_after s o c g n l count at within drawn d since now t new k (goes_on writt
     let same : d.pending ++ written ≡ written = ap (λ (x : List ℕ). x ++ written) none in
     shakes_on s o c g n l count at within drawn quiet (record d { pending = d.pending ++ written }) since new k.text settings runs view k.put k.put_all to.0
     (subst (λ (x : List ℕ). HasSaid c.key draw.reconnection draw.key draw.own (k.text ++ x) new.key new.shake.has_answered) (sym same) (to.1 k.text k.said))
-    (λ w is. let all = all_was_said c.key draw g.lifted l t k w is (g.links.each n l at).welcome in same ∙ silent all.0 all.1)
+    (λ w is. let all = all_was_said c.key draw g.session_links l t k w is (g.links.each n l at).welcome in same ∙ silent all.0 all.1)
 looks_after s o c g n l count at within drawn d since now t new k spoils settings none runs view to silent =
     let until = now + wait_before (next_attempt d.attempt) in
     rests s o c g drawn (rest_or_drop true until) (record d { attempt = next_attempt d.attempt; pending = [] }) (stages.Resting until) tt settings refl runs view g.within

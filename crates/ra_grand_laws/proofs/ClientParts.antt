@@ -35,7 +35,7 @@ called_at : (s : Option Session) (o : Option Row) (c : Client) (stage : Stage) �
 unfolding ground_of
 called_at s o c stage apart p drawn act call views keeps =
     rests s o (with_stage stage c) (ground_of s o (with_stage stage c) p) drawn act (record c.dialer { session = call c.dialer.session }) stage apart refl p.pending
-    ((number_link call keeps c.dialer.session).1 p.runs) (views 0 A p.number p.present c.dialer.session p.peer p.lifted p.view) p.stage
+    ((number_link call keeps c.dialer.session).1 p.runs) (views 0 A p.number p.present c.dialer.session p.peer p.session_links p.view) p.stage
 
 same_at : (s : Option Session) (o : Option Row) (c : Client) (stage : Stage) → IsApart stage → PartHolds s o (with_stage stage c) → (drawn : ℕ) (act : Act)
     → After s o (with_stage stage c) drawn (act, record c.dialer { stage = stage })

@@ -35,10 +35,10 @@ use Rattle.ra_grand_laws.proofs.Lists.{there_is, get_same}
 use Rattle.ra_grand_laws.proofs.BadTurns.{feeds_going, going_feeds}
 use Rattle.ra_grand_laws.proofs.ClientAttached.{IsLive, live, live_of, after_if, view_nothing}
 use Rattle.ra_grand_laws.proofs.ClientGrounds.{Ground, After, with_stage, ground_of, part_made}
-use Rattle.ra_grand_laws.proofs.ClientLinks.{Here, last_len, last_behind, links_down, links_relifted}
+use Rattle.ra_grand_laws.proofs.ClientLinks.{Here, last_len, last_behind, links_down, links_renewed}
 use Rattle.ra_grand_laws.proofs.ClientSends.{attached_on, rests}
 use Rattle.ra_grand_laws.proofs.ClientShakes.{shakes_on}
-use Rattle.ra_grand_laws.proofs.LiftedMoves.{backs_itself, backs_put, texts_put, whole_back, read_more}
+use Rattle.ra_grand_laws.proofs.SessionLinkMoves.{backs_itself, backs_put, texts_put, whole_back, read_more}
 
 -- the link, of which so many bytes more were read
 abbrev pub read_by : ℕ → GrandLink → GrandLink
@@ -54,7 +54,7 @@ down_ground s o c g n k l at fits = record {
   kind = g.kind;
   settings = g.settings;
   runs = g.runs;
-  lifted = g.lifted;
+  session_links = g.session_links;
   number = g.number;
   present = g.present;
   peer = g.peer;
@@ -65,14 +65,14 @@ down_ground s o c g n k l at fits = record {
   both = g.both;
   draws = g.draws;
   attached = g.attached;
-  links = links_down c.key g.draws g.lifted g.present g.number g.attached c.links n k l at fits g.links;
+  links = links_down c.key g.draws g.session_links g.present g.number g.attached c.links n k l at fits g.links;
   within = subst (λ (m : ℕ). g.attached ≤ m) (sym (length-set c.links n (read_by k l))) g.within;
 }
 
 -- ---- another link is behind it
 
-attached_behind : (c : Client) (links : List GrandLink) (lifted : List Link) (number : ℕ) (l : GrandLink) → IsAttached c lifted number l → IsAttached (record c { links = links }) lifted number l
-attached_behind c links lifted number l on = record {
+attached_behind : (c : Client) (links : List GrandLink) (session_links : List Link) (number : ℕ) (l : GrandLink) → IsAttached c session_links number l → IsAttached (record c { links = links }) session_links number l
+attached_behind c links session_links number l on = record {
   welcome = on.welcome;
   is_there = on.is_there;
   is_number = on.is_number;
@@ -82,21 +82,21 @@ attached_behind c links lifted number l on = record {
   read = on.read;
 }
 
-stage_behind : (c : Client) (draws : ℕ → Drawn) (lifted : List Link) (number attached n k : ℕ) (l x : GrandLink) (stage : Stage) → slice_get c.links (suc n) ≡ Some x
-    → StageKeeps c draws lifted number attached stage → StageKeeps (read_down n k l c) draws lifted number attached stage
-stage_behind c draws lifted number attached n k l x (stages.Resting until) more keeps = omega (arith, keeps, length-set c.links n (read_by k l))
-stage_behind c draws lifted number attached n k l x (stages.Calling since) more keeps = omega (arith, keeps, length-set c.links n (read_by k l))
-stage_behind c draws lifted number attached n k l x (stages.Shaking since t) more keeps =
+stage_behind : (c : Client) (draws : ℕ → Drawn) (session_links : List Link) (number attached n k : ℕ) (l x : GrandLink) (stage : Stage) → slice_get c.links (suc n) ≡ Some x
+    → StageKeeps c draws session_links number attached stage → StageKeeps (read_down n k l c) draws session_links number attached stage
+stage_behind c draws session_links number attached n k l x (stages.Resting until) more keeps = omega (arith, keeps, length-set c.links n (read_by k l))
+stage_behind c draws session_links number attached n k l x (stages.Calling since) more keeps = omega (arith, keeps, length-set c.links n (read_by k l))
+stage_behind c draws session_links number attached n k l x (stages.Shaking since t) more keeps =
     let low = keeps.0 in (
       omega (arith, low, length-set c.links n (read_by k l)),
       last_behind (λ (m : ℕ) (y : GrandLink). Shakes c.key (draws m) t y) c.links n (read_by k l) x more keeps.1,
     )
-stage_behind c draws lifted number attached n k l x stages.Attached more keeps =
-    let last = last_behind (λ (m : ℕ) (y : GrandLink). IsAttached c lifted number y) c.links n (read_by k l) x more keeps.1 in (
+stage_behind c draws session_links number attached n k l x stages.Attached more keeps =
+    let last = last_behind (λ (m : ℕ) (y : GrandLink). IsAttached c session_links number y) c.links n (read_by k l) x more keeps.1 in (
       keeps.0 ∙ sym (length-set c.links n (read_by k l)),
-      (last.0, last.1, last.2, last.3, attached_behind c (slice_set c.links n (read_by k l)) lifted number last.1 last.4),
+      (last.0, last.1, last.2, last.3, attached_behind c (slice_set c.links n (read_by k l)) session_links number last.1 last.4),
     )
-stage_behind c draws lifted number attached n k l x (stages.Over end) more keeps = omega (arith, keeps, length-set c.links n (read_by k l))
+stage_behind c draws session_links number attached n k l x (stages.Over end) more keeps = omega (arith, keeps, length-set c.links n (read_by k l))
 
 -- ---- what holds of the last link
 
@@ -138,9 +138,9 @@ shaking_down s o c since t p n k l at none fits drawn =
 
 -- ---- an attached session
 
--- what is unread of the lifted link is what is unread of the client's
-lifted_unread : (w : Welcome) (l x : Link) → Carries w l x → w.down ≤ l.to_a.read → x.to_a.read + w.down ≡ length w.pause + l.to_a.read → readable A x ≡ readable A l
-lifted_unread w l x carries behind read =
+-- what is unread of the session's link is what is unread of the client's
+session_link_unread : (w : Welcome) (l x : Link) → Carries w l x → w.down ≤ l.to_a.read → x.to_a.read + w.down ≡ length w.pause + l.to_a.read → readable A x ≡ readable A l
+session_link_unread w l x carries behind read =
     let more = l.to_a.read - w.down in
     let one : x.to_a.read ≡ length w.pause + more = omega (arith, behind, read) in
     let two : w.down + more ≡ l.to_a.read = omega (arith, behind) in
@@ -175,23 +175,23 @@ fed_down s o c g n k now l live_here at fits drawn admits =
     let e = old.peer.endpoint.epoch in
     let piece = take k (readable A l.link) in
     let session = feed_session e piece now old in
-    let x = h.lift in
+    let x = h.session_link in
     let w = h.welcome in
-    let lift = read_on A k x in
-    let lifted = put_number g.lifted g.number lift in
+    let session_link = read_on A k x in
+    let session_links = put_number g.session_links g.number session_link in
     let carries : Carries w l.link x = subst (λ (y : GrandLink). Carries w y.link x) live_here.link h.carries in
     let behind : w.down ≤ l.link.to_a.read = subst (λ (y : GrandLink). w.down ≤ y.link.to_a.read) live_here.link is.behind in
     let going = feeds_going e old admits in
     let read : x.to_a.read + w.down ≡ length w.pause + l.link.to_a.read =
     subst (λ (y : GrandLink). x.to_a.read + w.down ≡ length w.pause + y.link.to_a.read) live_here.link (is.read going) in
-    let unread : readable A x ≡ readable A l.link = lifted_unread w l.link x carries behind read in
-    let fed_view : View 0 A g.number g.present session.peer g.peer lifted =
-    subst (λ (t : List ℕ). View 0 A g.number g.present (feed_session e (take k t) now old).peer g.peer lifted) unread
-    (link_fed 0 A g.number g.present old g.peer g.lifted g.view k e now x h.lift_at (subst (λ (t : List ℕ). k ≤ length t) (sym unread) fits) admits) in
+    let unread : readable A x ≡ readable A l.link = session_link_unread w l.link x carries behind read in
+    let fed_view : View 0 A g.number g.present session.peer g.peer session_links =
+    subst (λ (t : List ℕ). View 0 A g.number g.present (feed_session e (take k t) now old).peer g.peer session_links) unread
+    (link_fed 0 A g.number g.present old g.peer g.session_links g.view k e now x h.session_link_at (subst (λ (t : List ℕ). k ≤ length t) (sym unread) fits) admits) in
     let keeps = link_feed e piece now old in
     let runs = (number_link (feed_session e piece now) (link_feed e piece now) old).1 g.runs in
     let after = down_ground s o (live c) g n k l at fits in
-    let backs = backs_put g.lifted g.number x lift h.lift_at refl refl (λ kept. kept) in
+    let backs = backs_put g.session_links g.number x session_link h.session_link_at refl refl (λ kept. kept) in
     let links = slice_set c.links n (read_by k l) in
     let between = record c { dialer = record c.dialer { stage = stages.Attached; session = session }; links = links } in
     let ground : Ground s o between = record {
@@ -199,23 +199,23 @@ fed_down s o c g n k now l live_here at fits drawn admits =
       kind = g.kind;
       settings = g.settings;
       runs = runs;
-      lifted = lifted;
+      session_links = session_links;
       number = g.number;
       present = g.present;
       peer = g.peer;
       view = fed_view;
       server = g.server;
-      whole = whole_back g.peer g.present g.lifted lifted backs g.whole;
-      count = length-put_number g.lifted g.number lift ∙ g.count;
+      whole = whole_back g.peer g.present g.session_links session_links backs g.whole;
+      count = length-put_number g.session_links g.number session_link ∙ g.count;
       both = g.both;
       draws = g.draws;
       attached = g.attached;
       links =
-          links_relifted c.key g.draws g.lifted lifted g.present g.number g.attached g.number g.attached links (texts_put g.lifted g.number x lift h.lift_at refl refl refl) backs
+          links_renewed c.key g.draws g.session_links session_links g.present g.number g.attached g.number g.attached links (texts_put g.session_links g.number x session_link h.session_link_at refl refl refl) backs
           after.links.later after.links;
       within = after.within;
     } in
-    let here : Here lifted g.number links = record {
+    let here : Here session_links g.number links = record {
       place = n;
       link = read_by k l;
       count = length-set c.links n (read_by k l) ∙ h.count ∙ ap (λ (m : ℕ). suc m) live_here.place;
@@ -223,12 +223,12 @@ fed_down s o c g n k now l live_here at fits drawn admits =
       welcome = w;
       is_there = subst (λ (y : GrandLink). y.server.welcome ≡ Some w) live_here.link h.is_there;
       is_number = h.is_number;
-      lift = lift;
-      lift_at = put_same g.lifted g.number x lift h.lift_at;
+      session_link = session_link;
+      session_link_at = put_same g.session_links g.number x session_link h.session_link_at;
       carries = record { up = carries.up; down = carries.down; cut = carries.cut };
     } in
     attached_on s o between ground here drawn nothing (record c.dialer { session = session }) (is.all ∙ sym (length-set c.links n (read_by k l))) refl runs
-    (view_nothing lifted g.number g.present session.peer g.peer lift c.dialer.pending here.lift_at is.none fed_view)
+    (view_nothing session_links g.number g.present session.peer g.peer session_link c.dialer.pending here.session_link_at is.none fed_view)
     (λ still. ap is_linked keeps.1 ∙ is.linked (sym keeps.2 ∙ still)) (omega (arith, behind)) (λ still. omega (arith, read))
 
 -- the session has ended, and takes none
@@ -241,11 +241,11 @@ refused_down s o c g n k now l live_here at fits drawn refusal why =
     let h = is.here in
     let old = c.dialer.session in
     let w = h.welcome in
-    let x = h.lift in
+    let x = h.session_link in
     let links = slice_set c.links n (read_by k l) in
     let carries : Carries w l.link x = subst (λ (y : GrandLink). Carries w y.link x) live_here.link h.carries in
     let behind : w.down ≤ l.link.to_a.read = subst (λ (y : GrandLink). w.down ≤ y.link.to_a.read) live_here.link is.behind in
-    let here : Here g.lifted g.number links = record {
+    let here : Here g.session_links g.number links = record {
       place = n;
       link = read_by k l;
       count = length-set c.links n (read_by k l) ∙ h.count ∙ ap (λ (m : ℕ). suc m) live_here.place;
@@ -253,12 +253,12 @@ refused_down s o c g n k now l live_here at fits drawn refusal why =
       welcome = w;
       is_there = subst (λ (y : GrandLink). y.server.welcome ≡ Some w) live_here.link h.is_there;
       is_number = h.is_number;
-      lift = x;
-      lift_at = h.lift_at;
+      session_link = x;
+      session_link_at = h.session_link_at;
       carries = record { up = carries.up; down = carries.down; cut = carries.cut };
     } in
     attached_on s o (live (read_down n k l c)) (down_ground s o (live c) g n k l at fits) here drawn nothing c.dialer (is.all ∙ sym (length-set c.links n (read_by k l))) refl g.runs
-    (view_nothing g.lifted g.number g.present old.peer g.peer x c.dialer.pending h.lift_at is.none g.view) is.linked (omega (arith, behind))
+    (view_nothing g.session_links g.number g.present old.peer g.peer x c.dialer.pending h.session_link_at is.none g.view) is.linked (omega (arith, behind))
     (λ going. absurd (no_refusal refusal (sym (going_feeds old going (is.linked going)) ∙ why)))
   where
     no_refusal : (r : Refusal) → ◌≡◌ {A = Option Refusal} None (Some r) → ⊥
@@ -341,9 +341,9 @@ unfolding ground_of
 down_by s o c n k now l None none at fits p = piece_at s o c c.dialer.stage n k now l at none fits p
 down_by s o c n k now l (Some x) is at fits p =
     let g = ground_of s o c p in
-    part_made s o c g c.dialer c.drawn (slice_set c.links n (read_by k l)) p.lifted p.number p.attached refl p.pending p.runs p.view refl (backs_itself p.lifted)
-    (links_down c.key p.draws p.lifted p.present p.number p.attached c.links n k l at fits g.links)
-    (stage_behind c p.draws p.lifted p.number p.attached n k l x c.dialer.stage is p.stage)
+    part_made s o c g c.dialer c.drawn (slice_set c.links n (read_by k l)) p.session_links p.number p.attached refl p.pending p.runs p.view refl (backs_itself p.session_links)
+    (links_down c.key p.draws p.session_links p.present p.number p.attached c.links n k l at fits g.links)
+    (stage_behind c p.draws p.session_links p.number p.attached n k l x c.dialer.stage is p.stage)
 
 pub part_down : (s : Option Session) (o : Option Row) (c : Client) (n k now : ℕ) (l : GrandLink) → slice_get c.links n ≡ Some l → k ≤ length (readable A l.link) → PartHolds s o c
     → PartHolds s o (takes (is_none (slice_get c.links (suc n))) (take k (readable A l.link)) now (with_link (suc n) (record l { link = read_on A k l.link }) c))

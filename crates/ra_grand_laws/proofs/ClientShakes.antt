@@ -17,7 +17,7 @@ use Rattle.ra_grand.specs.Reached.{Begins, read_of}
 use Rattle.ra_grand_laws.specs.Handshakes.{client_text, ReadsHandshake, HasSaid}
 use Rattle.ra_grand_laws.specs.Parts.{LinkKeeps, PartHolds}
 use Rattle.ra_grand_laws.proofs.Lists.{get_same}
-use Rattle.ra_grand_laws.proofs.LiftedMoves.{backs_itself, link_said}
+use Rattle.ra_grand_laws.proofs.SessionLinkMoves.{backs_itself, link_said}
 use Rattle.ra_grand_laws.proofs.ClientLinks.{last_is, links_put_one}
 use Rattle.ra_grand_laws.proofs.ClientGrounds.{Ground, After, part_made}
 use Rattle.ra_grand_laws.proofs.ClientTexts.{said_front}
@@ -38,7 +38,7 @@ put_all_more false text written bytes all kept = ap (λ (t : List ℕ). t ++ byt
 -- the handshake goes on with this state, and these bytes go on its link
 pub shakes_on : (s : Option Session) (o : Option Row) (c : Client) (g : Ground s o c) (n : ℕ) (l : GrandLink) → length c.links ≡ suc n → slice_get c.links n ≡ Some l
     → g.attached < length c.links → (drawn : ℕ) (act : Act) (d : Dialer) (since : ℕ) (t : ShakingState) (text : List ℕ)
-    → d.settings ≡ c.dialer.settings → IsRunning d.session → View 0 A g.number g.present d.session.peer g.peer g.lifted
+    → d.settings ≡ c.dialer.settings → IsRunning d.session → View 0 A g.number g.present d.session.peer g.peer g.session_links
     → Begins text l.link.to_b.written → (l.link.is_cut ≡ false → l.link.to_b.written ≡ text)
     → ReadsHandshake c.key (g.draws n).key (g.draws n).own (read_of l.link.to_a) t
     → HasSaid c.key (g.draws n).reconnection (g.draws n).key (g.draws n).own (text ++ d.pending) t.key t.shake.has_answered
@@ -54,12 +54,12 @@ shakes_on s o c g n l count at within drawn act d since t text settings runs vie
     let more : Begins (text ++ bytes) fresh.link.to_b.written = put_more l.link.is_cut text l.link.to_b.written bytes put all in
     let is_front : fresh.link.to_b.written ++ (more.rest ++ front.1) ≡ client_text c.key draw.reconnection draw.key draw.own front.0 =
     sym (append_assoc fresh.link.to_b.written more.rest front.1) ∙ ap (λ (x : List ℕ). x ++ front.1) (sym more.same) ∙ front.2 in
-    let keeps : LinkKeeps c.key draw g.lifted g.present fresh =
-    link_said c.key draw g.lifted g.present l bytes stops front.0 (more.rest ++ front.1) is_front (g.links.each n l at) in
+    let keeps : LinkKeeps c.key draw g.session_links g.present fresh =
+    link_said c.key draw g.session_links g.present l bytes stops front.0 (more.rest ++ front.1) is_front (g.links.each n l at) in
     subst (λ (x : List ℕ). PartHolds s o (record { key = c.key; dialer = dialer; drawn = drawn; links = with_last (writes_up x) c.links })) (sym (append-nil bytes))
     (subst (λ (ls : List GrandLink). PartHolds s o (record { key = c.key; dialer = dialer; drawn = drawn; links = ls })) (sym (last_is (writes_up bytes) c.links n l count at))
-    (part_made s o c g dialer drawn links g.lifted g.number g.attached settings refl runs view refl (backs_itself g.lifted)
-    (links_put_one c.key g.draws g.lifted g.present g.number g.attached c.links n l fresh at refl keeps g.links) (
+    (part_made s o c g dialer drawn links g.session_links g.number g.attached settings refl runs view refl (backs_itself g.session_links)
+    (links_put_one c.key g.draws g.session_links g.present g.number g.attached c.links n l fresh at refl keeps g.links) (
       omega (arith, within, length-set c.links n fresh),
       (
         n,

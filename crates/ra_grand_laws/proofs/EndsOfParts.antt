@@ -18,11 +18,11 @@ use Rattle.ra_grand_laws.specs.Parts.{IsWelcome, HasWelcome, IsSeated, IsAttache
 use Rattle.ra_grand_laws.proofs.Lists.{there_is}
 
 -- the view with the session at the server
-pub view_with : (s : Session) (o : Option Row) (c : Client) (part : PartHolds (Some s) o c) → View 0 A part.number part.present c.dialer.session.peer s.peer part.lifted
-view_with s o c part = subst (λ (p : Peer). View 0 A part.number part.present c.dialer.session.peer p part.lifted) part.server.0 part.view
+pub view_with : (s : Session) (o : Option Row) (c : Client) (part : PartHolds (Some s) o c) → View 0 A part.number part.present c.dialer.session.peer s.peer part.session_links
+view_with s o c part = subst (λ (p : Peer). View 0 A part.number part.present c.dialer.session.peer p part.session_links) part.server.0 part.view
 
-pub back_with : (s : Session) (o : Option Row) (c : Client) (part : PartHolds (Some s) o c) → View 0 B part.present part.number s.peer c.dialer.session.peer part.lifted
-back_with s o c part = turned 0 A part.number part.present c.dialer.session.peer s.peer part.lifted (view_with s o c part)
+pub back_with : (s : Session) (o : Option Row) (c : Client) (part : PartHolds (Some s) o c) → View 0 B part.present part.number s.peer c.dialer.session.peer part.session_links
+back_with s o c part = turned 0 A part.number part.present c.dialer.session.peer s.peer part.session_links (view_with s o c part)
 
 pub both_hear : (s : Session) (o : Option Row) (c : Client) → PartHolds (Some s) o c → BothHear c.dialer.session.peer s.peer
 both_hear s o c part =
@@ -42,15 +42,15 @@ heard_nothing now p o new hears =
 pub silent : (o : Option Row) (c : Client) → PartHolds None o c → c.dialer.session.peer.heard ≡ []
 silent o c part =
     heard_nothing part.server.0 c.dialer.session.peer part.peer part.server.1
-    (hears (turned 0 A part.number part.present c.dialer.session.peer part.peer part.lifted part.view))
+    (hears (turned 0 A part.number part.present c.dialer.session.peer part.peer part.session_links part.view))
 
 -- ---- links
 
--- the lifted link of a welcome
+-- the session's link of a welcome
 welcome_of : (s : Session) (o : Option Row) (c : Client) (part : PartHolds (Some s) o c) (n : ℕ) (l : GrandLink) (w : Welcome)
-    → slice_get c.links n ≡ Some l → l.server.welcome ≡ Some w → IsWelcome c.key (part.draws n) part.lifted l w
+    → slice_get c.links n ≡ Some l → l.server.welcome ≡ Some w → IsWelcome c.key (part.draws n) part.session_links l w
 welcome_of s o c part n l w there is =
-    subst (λ (x : Option Welcome). HasWelcome c.key (part.draws n) part.lifted l x) is (part.links n l there).welcome
+    subst (λ (x : Option Welcome). HasWelcome c.key (part.draws n) part.session_links l x) is (part.links n l there).welcome
 
 pub link_honest : (s : Session) (o : Option Row) (c : Client) → PartHolds (Some s) o c → (n : ℕ) (l : GrandLink) (w : Welcome)
     → slice_get c.links n ≡ Some l → l.server.welcome ≡ Some w → LinkHonest c.dialer.session.peer s.peer w l
@@ -58,8 +58,8 @@ link_honest s o c part n l w there is =
     let h = welcome_of s o c part n l w there is in
     let up = writes_honestly (view_with s o c part) in
     let down = writes_honestly (back_with s o c part) in record {
-      up = subst (λ (t : List ℕ). IsFront 0 (messages c.dialer.session.peer.endpoint) (0 + length c.dialer.session.peer.heard) t) h.carries.up (up.front w.epoch h.lift h.is_at);
-      down = subst (λ (t : List ℕ). IsFront 0 (messages s.peer.endpoint) (0 + length s.peer.heard) t) h.carries.down (down.front w.epoch h.lift h.is_at);
+      up = subst (λ (t : List ℕ). IsFront 0 (messages c.dialer.session.peer.endpoint) (0 + length c.dialer.session.peer.heard) t) h.carries.up (up.front w.epoch h.session_link h.is_at);
+      down = subst (λ (t : List ℕ). IsFront 0 (messages s.peer.endpoint) (0 + length s.peer.heard) t) h.carries.down (down.front w.epoch h.session_link h.is_at);
     }
 
 -- ---- the present links
@@ -82,9 +82,9 @@ take_past : (p t : List ℕ) (k : ℕ) → take (length p + k) (p ++ t) ≡ p ++
 take_past [] t k = take_less t (0 + k) k (omega arith)
 take_past (x ∷ xs) t k = take_less (x ∷ (xs ++ t)) (length (x ∷ xs) + k) (suc (length xs + k)) (omega arith) ∙ ap (λ (l : List ℕ). x ∷ l) (take_past xs t k)
 
--- what was read of the lifted link, by what was read of the link
-read_of_lifted : (p t text : List ℕ) (d r n : ℕ) → text ≡ p ++ drop d t → n + d ≡ length p + r → d ≤ r → take n text ≡ p ++ drop d (take r t)
-read_of_lifted p t text d r n is sum behind =
+-- what was read of the session's link, by what was read of the link
+read_of_session_link : (p t text : List ℕ) (d r n : ℕ) → text ≡ p ++ drop d t → n + d ≡ length p + r → d ≤ r → take n text ≡ p ++ drop d (take r t)
+read_of_session_link p t text d r n is sum behind =
     ap (λ (x : List ℕ). take n x) is
     ∙ ap (λ (k : ℕ). take k (p ++ drop d t)) (omega (arith, sum, behind))
     ∙ take_past p (drop d t) (r - d)
@@ -92,47 +92,47 @@ read_of_lifted p t text d r n is sum behind =
 
 -- the client, attached on its last link
 pub client_holds : (s : Session) (o : Option Row) (c : Client) (part : PartHolds (Some s) o c) (n : ℕ) (l : GrandLink) (w : Welcome)
-    → slice_get c.links n ≡ Some l → l.server.welcome ≡ Some w → IsAttached c part.lifted part.number l → c.dialer.session.cause ≡ None
+    → slice_get c.links n ≡ Some l → l.server.welcome ≡ Some w → IsAttached c part.session_links part.number l → c.dialer.session.cause ≡ None
     → HoldsLink (messages c.dialer.session.peer.endpoint) c.dialer.session.peer (text_up w l) (read_down w l) l.link.is_cut
 client_holds s o c part n l w there is attached running =
     let h = welcome_of s o c part n l w there is in
     let same : attached.welcome ≡ w = there_is (sym attached.is_there ∙ is) in
     let number : w.epoch ≡ part.number = ap (λ (x : Welcome). x.epoch) (sym same) ∙ attached.is_number in
-    let at : at_number part.lifted part.number ≡ Some h.lift = ap (λ (k : ℕ). at_number part.lifted k) (sym number) ∙ h.is_at in
+    let at : at_number part.session_links part.number ≡ Some h.session_link = ap (λ (k : ℕ). at_number part.session_links k) (sym number) ∙ h.is_at in
     let v = view_with s o c part in
     let up = writes_honestly v in
     let down = reads_in_frames v in record {
       whole = λ kept linked.
           subst (λ (t : List ℕ). IsJoining 0 (messages c.dialer.session.peer.endpoint) (0 + length c.dialer.session.peer.heard) (t ++ c.dialer.session.peer.endpoint.unwritten)) h.carries.up
-          (up.whole h.lift at (h.carries.cut ∙ kept) linked);
+          (up.whole h.session_link at (h.carries.cut ∙ kept) linked);
       carry = λ linked.
-          sym (read_of_lifted w.pause l.link.to_a.written h.lift.to_a.written w.down l.link.to_a.read h.lift.to_a.read h.carries.down
-          (subst (λ (x : Welcome). h.lift.to_a.read + x.down ≡ length x.pause + l.link.to_a.read) same (attached.read running h.lift at))
+          sym (read_of_session_link w.pause l.link.to_a.written h.session_link.to_a.written w.down l.link.to_a.read h.session_link.to_a.read h.carries.down
+          (subst (λ (x : Welcome). h.session_link.to_a.read + x.down ≡ length x.pause + l.link.to_a.read) same (attached.read running h.session_link at))
           (subst (λ (x : Welcome). x.down ≤ l.link.to_a.read) same attached.behind))
-          ∙ down.carry h.lift at linked;
+          ∙ down.carry h.session_link at linked;
     }
 
 -- the server, on the present link of its session
 pub server_holds : (s : Session) (o : Option Row) (c : Client) (part : PartHolds (Some s) o c) (n : ℕ) (l : GrandLink) (w : Welcome) (seat : Seat)
-    → slice_get c.links n ≡ Some l → l.server.welcome ≡ Some w → IsSeated c.key part.lifted part.present l seat → seat.epoch ≡ s.peer.endpoint.epoch
+    → slice_get c.links n ≡ Some l → l.server.welcome ≡ Some w → IsSeated c.key part.session_links part.present l seat → seat.epoch ≡ s.peer.endpoint.epoch
     → HoldsLink (messages s.peer.endpoint) s.peer (text_down w l) (read_up w l) l.link.is_cut
 server_holds s o c part n l w seat there is seated present =
     let h = welcome_of s o c part n l w there is in
     let same : seated.welcome ≡ w = there_is (sym seated.is_there ∙ is) in
     let mine : seat.epoch ≡ part.present = present ∙ part.server.1 in
     let number : w.epoch ≡ part.present = ap (λ (x : Welcome). x.epoch) (sym same) ∙ sym seated.number ∙ mine in
-    let at : at_number part.lifted part.present ≡ Some h.lift = ap (λ (k : ℕ). at_number part.lifted k) (sym number) ∙ h.is_at in
+    let at : at_number part.session_links part.present ≡ Some h.session_link = ap (λ (k : ℕ). at_number part.session_links k) (sym number) ∙ h.is_at in
     let v = back_with s o c part in
     let down = writes_honestly v in
     let up = reads_in_frames v in record {
       whole = λ kept linked.
           subst (λ (t : List ℕ). IsJoining 0 (messages s.peer.endpoint) (0 + length s.peer.heard) (t ++ s.peer.endpoint.unwritten)) h.carries.down
-          (down.whole h.lift at (h.carries.cut ∙ kept) linked);
+          (down.whole h.session_link at (h.carries.cut ∙ kept) linked);
       carry = λ linked.
-          sym (read_of_lifted [] l.link.to_b.written h.lift.to_b.written w.up l.link.to_b.read h.lift.to_b.read h.carries.up
-          (as_sum (h.lift.to_b.read + w.up) l.link.to_b.read (subst (λ (x : Welcome). h.lift.to_b.read + x.up ≡ l.link.to_b.read) same (seated.read mine h.lift at)))
-          (at_least (h.lift.to_b.read) w.up l.link.to_b.read (subst (λ (x : Welcome). h.lift.to_b.read + x.up ≡ l.link.to_b.read) same (seated.read mine h.lift at))))
-          ∙ up.carry h.lift at linked;
+          sym (read_of_session_link [] l.link.to_b.written h.session_link.to_b.written w.up l.link.to_b.read h.session_link.to_b.read h.carries.up
+          (as_sum (h.session_link.to_b.read + w.up) l.link.to_b.read (subst (λ (x : Welcome). h.session_link.to_b.read + x.up ≡ l.link.to_b.read) same (seated.read mine h.session_link at)))
+          (at_least (h.session_link.to_b.read) w.up l.link.to_b.read (subst (λ (x : Welcome). h.session_link.to_b.read + x.up ≡ l.link.to_b.read) same (seated.read mine h.session_link at))))
+          ∙ up.carry h.session_link at linked;
     }
   where
     as_sum : (a k : ℕ) → a ≡ k → a ≡ 0 + k

@@ -85,8 +85,8 @@ nothing_opened draw settings reconnection key =
 
 -- ---- the link
 
-pub fresh_keeps : (c : Client) (lifted : List Link) (present : ℕ) → c.dialer.settings ≡ settings_for c.key → LinkKeeps c.key (drawn_next c) lifted present (fresh_link c)
-fresh_keeps c lifted present settings =
+pub fresh_keeps : (c : Client) (session_links : List Link) (present : ℕ) → c.dialer.settings ≡ settings_for c.key → LinkKeeps c.key (drawn_next c) session_links present (fresh_link c)
+fresh_keeps c session_links present settings =
     let d = drawn_next c in
     let blank = nothing_opened (λ n. []) c.dialer.settings d.reconnection d.key in
     record {
@@ -125,10 +125,10 @@ pub get_last : {X : Type 0} → (xs : List X) (x : X) → slice_get (xs ++ x ∷
 get_last [] x = refl
 get_last (y ∷ ys) x = get_last ys x
 
-pub links_fresh : (c : Client) (draws : ℕ → Drawn) (lifted : List Link) (present number attached : ℕ) → c.dialer.settings ≡ settings_for c.key
-    → LinksKeep c.key draws lifted present number attached c.links
-    → LinksKeep c.key (draws_with (length c.links) (drawn_next c) draws) lifted present number attached (c.links ++ fresh_link c ∷ [])
-links_fresh c draws lifted present number attached settings keep = record {
+pub links_fresh : (c : Client) (draws : ℕ → Drawn) (session_links : List Link) (present number attached : ℕ) → c.dialer.settings ≡ settings_for c.key
+    → LinksKeep c.key draws session_links present number attached c.links
+    → LinksKeep c.key (draws_with (length c.links) (drawn_next c) draws) session_links present number attached (c.links ++ fresh_link c ∷ [])
+links_fresh c draws session_links present number attached settings keep = record {
   each = λ n l is. each n l (get_end c.links (fresh_link c) n l is);
   apart = λ n m k l v w one other first second equal.
       keep.apart n m k l v w (known n k v (get_end c.links (fresh_link c) n k one) first) (known m l w (get_end c.links (fresh_link c) m l other) second) first second equal;
@@ -139,13 +139,13 @@ links_fresh c draws lifted present number attached settings keep = record {
     new = drawn_next c
 
     each : (n : ℕ) (l : GrandLink) → (slice_get c.links n ≡ Some l) ⊎ ((n ≡ length c.links) × (fresh_link c ≡ l))
-        → LinkKeeps c.key (draws_with (length c.links) new draws n) lifted present l
+        → LinkKeeps c.key (draws_with (length c.links) new draws n) session_links present l
     each n l (inl is) =
-        subst (λ (d : Drawn). LinkKeeps c.key d lifted present l) (sym (draw_below (length c.links) n new draws (get_within c.links n l is))) (keep.each n l is)
+        subst (λ (d : Drawn). LinkKeeps c.key d session_links present l) (sym (draw_below (length c.links) n new draws (get_within c.links n l is))) (keep.each n l is)
     each n l (inr p) =
-        subst (λ (m : ℕ). LinkKeeps c.key (draws_with (length c.links) new draws m) lifted present l) (sym p.0)
-        (subst (λ (d : Drawn). LinkKeeps c.key d lifted present l) (sym (draw_there (length c.links) new draws))
-        (subst (λ (x : GrandLink). LinkKeeps c.key new lifted present x) p.1 (fresh_keeps c lifted present settings)))
+        subst (λ (m : ℕ). LinkKeeps c.key (draws_with (length c.links) new draws m) session_links present l) (sym p.0)
+        (subst (λ (d : Drawn). LinkKeeps c.key d session_links present l) (sym (draw_there (length c.links) new draws))
+        (subst (λ (x : GrandLink). LinkKeeps c.key new session_links present x) p.1 (fresh_keeps c session_links present settings)))
 
     -- one with a welcome is none that is new
     known : (n : ℕ) (l : GrandLink) (w : Welcome) → (slice_get c.links n ≡ Some l) ⊎ ((n ≡ length c.links) × (fresh_link c ≡ l)) → l.server.welcome ≡ Some w → slice_get c.links n ≡ Some l

@@ -69,22 +69,22 @@ some_epoch None n is some = absurd (none n is some)
     none k e less = omega (arith, e, less)
 some_epoch (Some r) n is some = refl
 
-some_lifted : (lifted : List Link) (n : ℕ) (x : Link) → at_number lifted n ≡ Some x → 0 < length lifted
-some_lifted [] zero x is = none_there is
-some_lifted [] (suc n) x is = none_there is
-some_lifted (y ∷ ys) n x is = omega arith
+some_session_link : (session_links : List Link) (n : ℕ) (x : Link) → at_number session_links n ≡ Some x → 0 < length session_links
+some_session_link [] zero x is = none_there is
+some_session_link [] (suc n) x is = none_there is
+some_session_link (y ∷ ys) n x is = omega arith
 
 pub attached_there : (s : Option Session) (o : Option Row) (c : Client) → PartHolds s o c → c.dialer.stage ≡ stages.Attached → is_some o ≡ true
 attached_there s o c part is =
-    let stands : StageKeeps c part.draws part.lifted part.number part.attached stages.Attached =
-    subst (λ (t : Stage). StageKeeps c part.draws part.lifted part.number part.attached t) is part.stage in
+    let stands : StageKeeps c part.draws part.session_links part.number part.attached stages.Attached =
+    subst (λ (t : Stage). StageKeeps c part.draws part.session_links part.number part.attached t) is part.stage in
     let last = stands.1 in
     let l : GrandLink = last.1 in
-    let at : IsAttached c part.lifted part.number l = last.4 in
-    let keeps : LinkKeeps c.key (part.draws last.0) part.lifted part.present l = part.links last.0 l last.3 in
-    let welcome : IsWelcome c.key (part.draws last.0) part.lifted l at.welcome =
-    subst (λ (w : Option Welcome). HasWelcome c.key (part.draws last.0) part.lifted l w) at.is_there keeps.welcome in
-    some_epoch o (length part.lifted) part.count (some_lifted part.lifted at.welcome.epoch welcome.lift welcome.is_at)
+    let at : IsAttached c part.session_links part.number l = last.4 in
+    let keeps : LinkKeeps c.key (part.draws last.0) part.session_links part.present l = part.links last.0 l last.3 in
+    let welcome : IsWelcome c.key (part.draws last.0) part.session_links l at.welcome =
+    subst (λ (w : Option Welcome). HasWelcome c.key (part.draws last.0) part.session_links l w) at.is_there keeps.welcome in
+    some_epoch o (length part.session_links) part.count (some_session_link part.session_links at.welcome.epoch welcome.session_link welcome.is_at)
 
 pub claims_move : (s t : Option Session) (o p : Option Row) (c d : Client) → (is_some o ≡ true → is_some p ≡ true) → PartHolds s o c → PartHolds t p d → Moves c d
     → Claims o c → Claims p d

@@ -161,7 +161,7 @@ alike_down key link count w a =
 pub seat_is : (key : Key) (w : Grand) (n m : ℕ) (c : Client) (l : GrandLink) → PartHolds (w.hub.session c.key) (row w.hub c.key) c → slice_get c.links m ≡ Some l → IsOf c.key l.server.seat
 seat_is key w n m c l part at = by l.server.is_over l.server.seat (part.links m l at).end
   where
-    by : (over : Bool) (seat : Option Seat) → EndStands c.key part.lifted part.present l over seat → IsOf c.key seat
+    by : (over : Bool) (seat : Option Seat) → EndStands c.key part.session_links part.present l over seat → IsOf c.key seat
     by true None stands = tt
     by true (Some seat) stands = absurd cc
     by false None stands = tt

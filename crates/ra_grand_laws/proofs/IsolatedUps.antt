@@ -98,11 +98,11 @@ pub record IsFront (owner : Key) (d : Drawn) (text : List ℕ) : Type 0 where
   pub rest : List ℕ
   pub same : text ++ rest ≡ client_text owner d.reconnection d.key d.own theirs
 
-front_of : (owner : Key) (d : Drawn) (lifted : List Link) (present : ℕ) (l : GrandLink) (k : ℕ) → LinkKeeps owner d lifted present l → IsOpening l.server
+front_of : (owner : Key) (d : Drawn) (session_links : List Link) (present : ℕ) (l : GrandLink) (k : ℕ) → LinkKeeps owner d session_links present l → IsOpening l.server
     → IsFront owner d (l.server.seen ++ take k (readable B l.link))
-front_of owner d lifted present l k keeps opening =
+front_of owner d session_links present l k keeps opening =
     let front = front_up k l.link in
-    let written = subst (λ (w : Option Welcome). HasWelcome owner d lifted l w) opening.welcome keeps.welcome in
+    let written = subst (λ (w : Option Welcome). HasWelcome owner d session_links l w) opening.welcome keeps.welcome in
     record {
       theirs = written.0;
       rest = front.0 ++ written.1;
@@ -115,20 +115,20 @@ front_of owner d lifted present l k keeps opening =
 
 -- ---- a piece on a link of the key
 
-serve_by_seat : (owner : Key) (d : Drawn) (lifted : List Link) (present k : ℕ) (l : GrandLink) (seat : Option Seat) (one other : ℕ → List ℕ) (now : ℕ) (s t : Serving)
-    → owner.kind ≢ Tunnel → LinkKeeps owner d lifted present l → EndStands owner lifted present l false seat → (d.reconnection ≡ true → is_some (row s.hub owner) ≡ true) → ServeAlike owner s t
+serve_by_seat : (owner : Key) (d : Drawn) (session_links : List Link) (present k : ℕ) (l : GrandLink) (seat : Option Seat) (one other : ℕ → List ℕ) (now : ℕ) (s t : Serving)
+    → owner.kind ≢ Tunnel → LinkKeeps owner d session_links present l → EndStands owner session_links present l false seat → (d.reconnection ≡ true → is_some (row s.hub owner) ≡ true) → ServeAlike owner s t
     → (h : Head Upgrade HeadFault) → h ≡ request_head (settings_for owner) d.reconnection d.key
     → SameDraws (piece_by None seat (grounds one) (with_piece h l.server.seen (take k (readable B l.link))) h (record { bytes = take k (readable B l.link); now = now }) s) one other
     → ServeAlike owner (piece_by None seat (grounds one) (with_piece h l.server.seen (take k (readable B l.link))) h (record { bytes = take k (readable B l.link); now = now }) s)
     (piece_by None seat (grounds other) (with_piece h l.server.seen (take k (readable B l.link))) h (record { bytes = take k (readable B l.link); now = now }) t)
 unfolding with_piece
-serve_by_seat owner d lifted present k l (Some seat) one other now s t known keeps stands there both h head draws =
+serve_by_seat owner d session_links present k l (Some seat) one other now s t known keeps stands there both h head draws =
     let bytes : List ℕ = take k (readable B l.link) in
     subst (λ (q : Key). ServeAlike q (served_by (turns_for bytes) seat bytes now s) (served_by (turns_for bytes) seat bytes now t)) stands.key
     (serve_served (turns_for bytes) seat bytes now s t (subst (λ (q : Key). ServeAlike q s t) (sym stands.key) both))
-serve_by_seat owner d lifted present k l None one other now s t known keeps stands there both h head draws =
+serve_by_seat owner d session_links present k l None one other now s t known keeps stands there both h head draws =
     let bytes : List ℕ = take k (readable B l.link) in
-    let front = front_of owner d lifted present l k keeps stands in
+    let front = front_of owner d session_links present l k keeps stands in
     subst
     (λ (g : Head Upgrade HeadFault).
     SameDraws (opening_came (opened (grounds one) g (with_piece g l.server.seen bytes)) (with_piece g l.server.seen bytes) now s) one other
@@ -162,18 +162,18 @@ unfolding served piece_done
 serve_piece key k m c l w a part at over same claims now agree jobs =
     let bytes : List ℕ = take k (readable B l.link) in
     let d : Drawn = part.draws m in
-    let keeps : LinkKeeps c.key d part.lifted part.present l = part.links m l at in
+    let keeps : LinkKeeps c.key d part.session_links part.present l = part.links m l at in
     let u : Serving = served bytes l w in
     let own : List (List ℕ) = l.server.drawn in
     let other : ℕ → List ℕ = own_then (own ++ drawn_by l u w.drawn) (λ n. []) in
-    let stands : EndStands c.key part.lifted part.present l false l.server.seat =
-    subst (λ (b : Bool). EndStands c.key part.lifted part.present l b l.server.seat) over keeps.end in
+    let stands : EndStands c.key part.session_links part.present l false l.server.seat =
+    subst (λ (b : Bool). EndStands c.key part.session_links part.present l b l.server.seat) over keeps.end in
     subst (λ (q : Key). ServeAlike q u (served_alone (drawn_by l u w.drawn) bytes l a)) same
     (subst
     (λ (t : ℕ). ServeAlike c.key u
     (piece_by None l.server.seat (grounds other) (with_piece l.server.head l.server.seen bytes) l.server.head (record { bytes = bytes; now = t }) (serving_at l a)))
     now
-    (serve_by_seat c.key d part.lifted part.present k l l.server.seat (draw_at l w) other w.now (serving_at l w) (serving_at l a) part.kind keeps stands
+    (serve_by_seat c.key d part.session_links part.present k l l.server.seat (draw_at l w) other w.now (serving_at l w) (serving_at l a) part.kind keeps stands
     (λ some. ap (λ (q : Key). is_some (row w.hub q)) same ∙ claims.links (any_at c.links m l at (claims_so c.key d l keeps.head ∙ some)))
     (record {
       seat = refl;
@@ -188,7 +188,7 @@ serve_piece key k m c l w a part at over same claims now agree jobs =
     })
     l.server.head keeps.head (λ some. sym (draws_same own u.drawn 0 (draws_after w.drawn) (λ n. []) some))))
   where
-    own_seat : (seat : Option Seat) → EndStands c.key part.lifted part.present l false seat → IsOf c.key seat
+    own_seat : (seat : Option Seat) → EndStands c.key part.session_links part.present l false seat → IsOf c.key seat
     own_seat None stands = tt
     own_seat (Some seat) stands = stands.key
 
@@ -204,19 +204,19 @@ beside_by_stage key owner reconnection drawn own theirs draw text (Asked request
 beside_by_stage key owner reconnection drawn own theirs draw text (Over end) o now h jobs s apart at beside =
     record { session = beside.session; row_is = beside.row_is; times = beside.times; jobs_are = beside.jobs_are; seat = beside.seat }
 
-beside_by_seat : (key owner : Key) (d : Drawn) (lifted : List Link) (present k : ℕ) (l : GrandLink) (seat : Option Seat) (one : ℕ → List ℕ) (now : ℕ) (h : Hub) (jobs : List SeenJob) (s : Serving)
-    → same_key owner key ≡ false → owner.kind ≢ Tunnel → LinkKeeps owner d lifted present l → EndStands owner lifted present l false seat → Beside key owner now h jobs s
+beside_by_seat : (key owner : Key) (d : Drawn) (session_links : List Link) (present k : ℕ) (l : GrandLink) (seat : Option Seat) (one : ℕ → List ℕ) (now : ℕ) (h : Hub) (jobs : List SeenJob) (s : Serving)
+    → same_key owner key ≡ false → owner.kind ≢ Tunnel → LinkKeeps owner d session_links present l → EndStands owner session_links present l false seat → Beside key owner now h jobs s
     → (g : Head Upgrade HeadFault) → g ≡ request_head (settings_for owner) d.reconnection d.key
     → Beside key owner now h jobs (piece_by None seat (grounds one) (with_piece g l.server.seen (take k (readable B l.link))) g (record { bytes = take k (readable B l.link); now = now }) s)
 unfolding with_piece
-beside_by_seat key owner d lifted present k l (Some seat) one now h jobs s apart known keeps stands beside g head =
+beside_by_seat key owner d session_links present k l (Some seat) one now h jobs s apart known keeps stands beside g head =
     let bytes : List ℕ = take k (readable B l.link) in
     subst (λ (q : Key). Beside key q now h jobs (served_by (turns_for bytes) seat bytes now s)) stands.key
     (beside_served (turns_for bytes) key seat bytes now h jobs s (ap (λ (q : Key). same_key q key) stands.key ∙ apart)
     (subst (λ (q : Key). Beside key q now h jobs s) (sym stands.key) beside))
-beside_by_seat key owner d lifted present k l None one now h jobs s apart known keeps stands beside g head =
+beside_by_seat key owner d session_links present k l None one now h jobs s apart known keeps stands beside g head =
     let bytes : List ℕ = take k (readable B l.link) in
-    let front = front_of owner d lifted present l k keeps stands in
+    let front = front_of owner d session_links present l k keeps stands in
     let o : Opened = opened (grounds one) (request_head (settings_for owner) d.reconnection d.key) (l.server.seen ++ bytes) in
     subst
     (λ (x : Head Upgrade HeadFault). Beside key owner now h jobs (opening_came (opened (grounds one) x (with_piece x l.server.seen bytes)) (with_piece x l.server.seen bytes) now s))
@@ -229,12 +229,12 @@ pub beside_piece : (key : Key) (k m : ℕ) (c : Client) (l : GrandLink) (w : Gra
     → l.server.is_over ≡ false → same_key c.key key ≡ false → Beside key c.key w.now w.hub w.jobs (served (take k (readable B l.link)) l w)
 unfolding served piece_done
 beside_piece key k m c l w part at over apart =
-    let keeps : LinkKeeps c.key (part.draws m) part.lifted part.present l = part.links m l at in
-    let stands : EndStands c.key part.lifted part.present l false l.server.seat =
-    subst (λ (b : Bool). EndStands c.key part.lifted part.present l b l.server.seat) over keeps.end in
-    beside_by_seat key c.key (part.draws m) part.lifted part.present k l l.server.seat (draw_at l w) w.now w.hub w.jobs (serving_at l w) apart part.kind keeps stands
+    let keeps : LinkKeeps c.key (part.draws m) part.session_links part.present l = part.links m l at in
+    let stands : EndStands c.key part.session_links part.present l false l.server.seat =
+    subst (λ (b : Bool). EndStands c.key part.session_links part.present l b l.server.seat) over keeps.end in
+    beside_by_seat key c.key (part.draws m) part.session_links part.present k l l.server.seat (draw_at l w) w.now w.hub w.jobs (serving_at l w) apart part.kind keeps stands
     (record { session = refl; row_is = refl; times = refl; jobs_are = refl; seat = own_seat l.server.seat stands }) l.server.head keeps.head
   where
-    own_seat : (seat : Option Seat) → EndStands c.key part.lifted part.present l false seat → IsOf c.key seat
+    own_seat : (seat : Option Seat) → EndStands c.key part.session_links part.present l false seat → IsOf c.key seat
     own_seat None stands = tt
     own_seat (Some seat) stands = stands.key

@@ -9,7 +9,7 @@ pub mod WholeTexts
 pub mod ServedFocus
 pub mod ServedTexts
 pub mod ClientGrounds
-pub mod LiftedMoves
+pub mod SessionLinkMoves
 pub mod ClientLinks
 pub mod WorldClients
 pub mod WorldLinks

@@ -16,7 +16,7 @@ SameAt old new (Some w) = (x : Link) → at_number old w.epoch ≡ Some x → at
 same_welcome : (owner : Key) (d : Drawn) (old new : List Link) (l : GrandLink) (o : Option Welcome) → SameAt old new o → HasWelcome owner d old l o → HasWelcome owner d new l o
 same_welcome owner d old new l None same has = has
 same_welcome owner d old new l (Some w) same has =
-    record { theirs = has.theirs; place = has.place; there = has.there; lift = has.lift; is_at = same has.lift has.is_at; carries = has.carries }
+    record { theirs = has.theirs; place = has.place; there = has.there; session_link = has.session_link; is_at = same has.session_link has.is_at; carries = has.carries }
 
 -- the seat of the welcome's link is the session's present one only if it was before
 abbrev SeatStays : Option Welcome → (before after : ℕ) → Type 0
@@ -42,7 +42,7 @@ same_end owner d old new before after l false (Some seat) same stays has stands 
       let stays_it : w.epoch ≡ after → after ≡ before = subst (λ (o : Option Welcome). SeatStays o before after) stands.is_there stays in
       let here : w.epoch ≡ after = sym stands.number ∙ is in
       let was : after ≡ before = stays_it here in
-      let both : has_it.lift ≡ x = there_is (sym (same_it has_it.lift has_it.is_at) ∙ ap (λ (n : ℕ). at_number new n) here ∙ there) in
+      let both : has_it.session_link ≡ x = there_is (sym (same_it has_it.session_link has_it.is_at) ∙ ap (λ (n : ℕ). at_number new n) here ∙ there) in
       stands.read (is ∙ was) x (ap (λ (n : ℕ). at_number old n) (sym (here ∙ was)) ∙ has_it.is_at ∙ ap (λ (y : Link). Some y) both);
 }
 
@@ -64,40 +64,40 @@ link_same owner d old new before after l same stays keeps = record {
 
 -- ---- another link changes
 
-elsewhere : (lifted : List Link) (e : ℕ) (x : Link) (o : Option Welcome) → ((w : Welcome) → o ≡ Some w → e ≡ w.epoch → ⊥) → SameAt lifted (put_number lifted e x) o
-elsewhere lifted e x None apart = tt
-elsewhere lifted e x (Some w) apart = λ y is. put_other lifted e w.epoch x (apart w refl) ∙ is
+elsewhere : (session_links : List Link) (e : ℕ) (x : Link) (o : Option Welcome) → ((w : Welcome) → o ≡ Some w → e ≡ w.epoch → ⊥) → SameAt session_links (put_number session_links e x) o
+elsewhere session_links e x None apart = tt
+elsewhere session_links e x (Some w) apart = λ y is. put_other session_links e w.epoch x (apart w refl) ∙ is
 
 stays_by : (o : Option Welcome) (before after : ℕ) → ((w : Welcome) → o ≡ Some w → w.epoch ≡ after → after ≡ before) → SeatStays o before after
 stays_by None before after stays = tt
 stays_by (Some w) before after stays = stays w refl
 
--- the lifted link under another number becomes another
-pub link_elsewhere : (owner : Key) (d : Drawn) (lifted : List Link) (before after e : ℕ) (x : Link) (l : GrandLink)
+-- the session's link under another number becomes another
+pub link_elsewhere : (owner : Key) (d : Drawn) (session_links : List Link) (before after e : ℕ) (x : Link) (l : GrandLink)
     → ((w : Welcome) → l.server.welcome ≡ Some w → e ≡ w.epoch → ⊥) → ((w : Welcome) → l.server.welcome ≡ Some w → w.epoch ≡ after → after ≡ before)
-    → LinkKeeps owner d lifted before l → LinkKeeps owner d (put_number lifted e x) after l
-link_elsewhere owner d lifted before after e x l apart stays keeps =
-    link_same owner d lifted (put_number lifted e x) before after l (elsewhere lifted e x l.server.welcome apart)
+    → LinkKeeps owner d session_links before l → LinkKeeps owner d (put_number session_links e x) after l
+link_elsewhere owner d session_links before after e x l apart stays keeps =
+    link_same owner d session_links (put_number session_links e x) before after l (elsewhere session_links e x l.server.welcome apart)
     (stays_by l.server.welcome before after stays) keeps
 
-same_front : (lifted : List Link) (x : Link) (o : Option Welcome) → SameAt lifted (lifted ++ x ∷ []) o
-same_front lifted x None = tt
-same_front lifted x (Some w) = λ y is. number_front lifted (x ∷ []) w.epoch y is
+same_front : (session_links : List Link) (x : Link) (o : Option Welcome) → SameAt session_links (session_links ++ x ∷ []) o
+same_front session_links x None = tt
+same_front session_links x (Some w) = λ y is. number_front session_links (x ∷ []) w.epoch y is
 
--- one lifted link more
-pub link_more : (owner : Key) (d : Drawn) (lifted : List Link) (present : ℕ) (x : Link) (l : GrandLink)
-    → LinkKeeps owner d lifted present l → LinkKeeps owner d (lifted ++ x ∷ []) present l
-link_more owner d lifted present x l keeps =
-    link_same owner d lifted (lifted ++ x ∷ []) present present l (same_front lifted x l.server.welcome)
+-- one link of the session more
+pub link_more : (owner : Key) (d : Drawn) (session_links : List Link) (present : ℕ) (x : Link) (l : GrandLink)
+    → LinkKeeps owner d session_links present l → LinkKeeps owner d (session_links ++ x ∷ []) present l
+link_more owner d session_links present x l keeps =
+    link_same owner d session_links (session_links ++ x ∷ []) present present l (same_front session_links x l.server.welcome)
     (stays_by l.server.welcome present present (λ w is at. refl)) keeps
 
 -- the present link is another, which is not this one
-pub link_passed : (owner : Key) (d : Drawn) (lifted : List Link) (before after : ℕ) (l : GrandLink)
-    → ((w : Welcome) → l.server.welcome ≡ Some w → w.epoch ≡ after → ⊥) → LinkKeeps owner d lifted before l → LinkKeeps owner d lifted after l
-link_passed owner d lifted before after l apart keeps =
-    link_same owner d lifted lifted before after l (same_itself l.server.welcome)
+pub link_passed : (owner : Key) (d : Drawn) (session_links : List Link) (before after : ℕ) (l : GrandLink)
+    → ((w : Welcome) → l.server.welcome ≡ Some w → w.epoch ≡ after → ⊥) → LinkKeeps owner d session_links before l → LinkKeeps owner d session_links after l
+link_passed owner d session_links before after l apart keeps =
+    link_same owner d session_links session_links before after l (same_itself l.server.welcome)
     (stays_by l.server.welcome before after (λ w is at. absurd (apart w is at))) keeps
   where
-    same_itself : (o : Option Welcome) → SameAt lifted lifted o
+    same_itself : (o : Option Welcome) → SameAt session_links session_links o
     same_itself None = tt
     same_itself (Some w) = λ y is. is

@@ -47,13 +47,13 @@ honest w n m c s l v keeps is session there welcome = honest_at w c s (part_at w
 -- ---- present links
 
 -- an attached client's last link has a welcome
-attached_on : (s : Session) (c : Client) (o : Option Row) (part : PartHolds (Some s) o c) (l : GrandLink) → StageKeeps c part.draws part.lifted part.number part.attached stages.Attached
-    → at_number c.links (length c.links) ≡ Some l → (n : ℕ) × (slice_get c.links n ≡ Some l) × IsAttached c part.lifted part.number l
+attached_on : (s : Session) (c : Client) (o : Option Row) (part : PartHolds (Some s) o c) (l : GrandLink) → StageKeeps c part.draws part.session_links part.number part.attached stages.Attached
+    → at_number c.links (length c.links) ≡ Some l → (n : ℕ) × (slice_get c.links n ≡ Some l) × IsAttached c part.session_links part.number l
 attached_on s c o part l on last =
     let h = on.1 in
     let n : ℕ = h.0 in
     let same : h.1 ≡ l = there_is (sym h.3 ∙ ap (λ (k : ℕ). at_number c.links k) (sym h.2) ∙ last) in
-    (n, h.3 ∙ ap (λ (x : GrandLink). Some x) same, subst (λ (x : GrandLink). IsAttached c part.lifted part.number x) same h.4)
+    (n, h.3 ∙ ap (λ (x : GrandLink). Some x) same, subst (λ (x : GrandLink). IsAttached c part.session_links part.number x) same h.4)
 
 pub attached : (w : Grand) (n : ℕ) (c : Client) (s : Session) (l : GrandLink) → WorldKeeps w → at_number w.clients n ≡ Some c → w.hub.session c.key ≡ Some s
     → c.dialer.stage ≡ stages.Attached → at_number c.links (length c.links) ≡ Some l → c.dialer.session.cause ≡ None
@@ -61,14 +61,14 @@ pub attached : (w : Grand) (n : ℕ) (c : Client) (s : Session) (l : GrandLink) 
     × HoldsLink (messages c.dialer.session.peer.endpoint) c.dialer.session.peer (text_up v l) (read_down v l) l.link.is_cut
 attached w n c s l keeps is session stage last running =
     let part = part_at w n c (Some s) keeps is session in
-    let on = attached_on s c (row w.hub c.key) part l (subst (λ (t : Stage). StageKeeps c part.draws part.lifted part.number part.attached t) stage part.stage) last in
+    let on = attached_on s c (row w.hub c.key) part l (subst (λ (t : Stage). StageKeeps c part.draws part.session_links part.number part.attached t) stage part.stage) last in
     (on.2.welcome, on.2.is_there, client_holds s (row w.hub c.key) c part on.0 l on.2.welcome on.1 on.2.is_there on.2 running)
 
 seated_at : (s : Session) (c : Client) (o : Option Row) (part : PartHolds (Some s) o c) (m : ℕ) (l : GrandLink) (seat : Seat) → slice_get c.links m ≡ Some l
-    → l.server.is_over ≡ false → l.server.seat ≡ Some seat → IsSeated c.key part.lifted part.present l seat
+    → l.server.is_over ≡ false → l.server.seat ≡ Some seat → IsSeated c.key part.session_links part.present l seat
 seated_at s c o part m l seat there over is =
-    subst (λ (b : Bool). EndStands c.key part.lifted part.present l b (Some seat)) over
-    (subst (λ (x : Option Seat). EndStands c.key part.lifted part.present l l.server.is_over x) is (part.links m l there).end)
+    subst (λ (b : Bool). EndStands c.key part.session_links part.present l b (Some seat)) over
+    (subst (λ (x : Option Seat). EndStands c.key part.session_links part.present l l.server.is_over x) is (part.links m l there).end)
 
 seated_on : (w : Grand) (c : Client) (s : Session) (part : PartHolds (Some s) (row w.hub c.key) c) (m : ℕ) (l : GrandLink) (seat : Seat)
     → at_number c.links m ≡ Some l → l.server.is_over ≡ false → l.server.seat ≡ Some seat → seat.epoch ≡ s.peer.endpoint.epoch

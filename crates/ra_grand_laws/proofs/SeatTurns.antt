@@ -59,8 +59,8 @@ refuses_so g h draw bytes piece after now epoch j s reason c =
 
 -- ---- no session
 
-present_none : (n : ℕ) (lifted : List Link) (x : Link) → n ≡ 0 → at_number lifted n ≡ Some x → ⊥
-present_none n lifted x nothing at = none_there (sym (ap (λ (k : ℕ). at_number lifted k) nothing) ∙ at)
+present_none : (n : ℕ) (session_links : List Link) (x : Link) → n ≡ 0 → at_number session_links n ≡ Some x → ⊥
+present_none n session_links x nothing at = none_there (sym (ap (λ (k : ℕ). at_number session_links k) nothing) ∙ at)
 
 quiet_so : (g : Ground) (h : Hub) (draw : ℕ → List ℕ) (bytes piece after : List ℕ) (now epoch j : ℕ) (s : Serving) → s.hub.session g.owner ≡ None → Comes g h draw bytes piece after epoch j s
     → TurnStands g h draw after now epoch (stops s)
@@ -71,21 +71,21 @@ quiet_so g h draw bytes piece after now epoch j s none c =
     let d = g.draws g.place in
     let f : Focus g None r l = subst (λ (o : Option Session). Focus g o r l) none c.going.focus in
     let put : IsPut [] l end piece = put_next bytes piece after false false s s g.link draw [] c.going.front (sym (append-nil s.out)) c.grows in
-    let seated : IsSeated g.owner f.lifted f.present l (seat_at g.owner epoch) = seated_at g None r l f epoch refl c.seat in
-    let now_seated : IsSeated g.owner f.lifted f.present end (seat_at g.owner epoch) = record {
+    let seated : IsSeated g.owner f.session_links f.present l (seat_at g.owner epoch) = seated_at g None r l f epoch refl c.seat in
+    let now_seated : IsSeated g.owner f.session_links f.present end (seat_at g.owner epoch) = record {
       welcome = seated.welcome;
       is_there = seated.is_there;
       key = refl;
       number = seated.number;
       said = seated.said;
-      read = λ is x at. absurd (present_none f.present f.lifted x f.server.2 at);
+      read = λ is x at. absurd (present_none f.present f.session_links x f.server.2 at);
     } in
     let moved : Focus g None r end =
     focus_moved g None r l end f
-    (keeps_put g.owner d f.lifted f.lifted f.present f.present l end piece [] f.here (follows_piece g h draw bytes piece after epoch j s c) put f.here.speaks
-    (welcome_read g.owner d f.lifted l end piece put refl f.here.welcome)
-    (seat_stands g.owner f.lifted f.present end false s.seat (seat_at g.owner epoch) refl c.seat now_seated))
-    (below_put g.owner d f.lifted f.present g.link l end piece [] f.here put (λ u is. is) f.stays) refl in
+    (keeps_put g.owner d f.session_links f.session_links f.present f.present l end piece [] f.here (follows_piece g h draw bytes piece after epoch j s c) put f.here.speaks
+    (welcome_read g.owner d f.session_links l end piece put refl f.here.welcome)
+    (seat_stands g.owner f.session_links f.present end false s.seat (seat_at g.owner epoch) refl c.seat now_seated))
+    (below_put g.owner d f.session_links f.present g.link l end piece [] f.here put (λ u is. is) f.stays) refl in
     stopped g h draw after now epoch s
     (going_stands g h draw after now s c.goes_on
     (record { focus = subst (λ (o : Option Session). Focus g o r end) (sym none) moved; others = c.going.others; front = c.going.front }))

@@ -63,14 +63,14 @@ over_now g h draw bytes now s t new more calls is seat welcome speaks =
     let out : t.out ≡ g.link.server.out ++ (new.more ++ more) = is ∙ ap (λ (v : List ℕ). v ++ more) new.grows ∙ append_assoc g.link.server.out new.more more in
     let put : IsPut (new.more ++ more) g.link after bytes = put_first bytes true u g.link draw (new.more ++ more) out in
     let leaves : HubCalls g.owner t.hub u.hub = left_hub g.owner t.seat now t.hub (subst (λ (o : Option Seat). IsOwn g.owner o) (sym seat) tt) in
-    let here : LinkKeeps g.owner d f.lifted f.present after =
-    keeps_put g.owner d f.lifted f.lifted f.present f.present g.link after bytes (new.more ++ more) f.here new.follows put
+    let here : LinkKeeps g.owner d f.session_links f.present after =
+    keeps_put g.owner d f.session_links f.session_links f.present f.present g.link after bytes (new.more ++ more) f.here new.follows put
     (subst (λ (o : Option Welcome). Speaks g.owner.kind d.key o t.out) (sym welcome) speaks)
-    (welcome_none g.owner d f.lifted f.lifted g.link after bytes (new.more ++ more) put new.none welcome f.here.welcome)
-    (over_stands g.owner f.lifted f.present after true None refl refl) in
+    (welcome_none g.owner d f.session_links f.session_links g.link after bytes (new.more ++ more) put new.none welcome f.here.welcome)
+    (over_stands g.owner f.session_links f.present after true None refl refl) in
     let moved : Focus g (s.hub.session g.owner) (row s.hub g.owner) after =
     focus_moved g (s.hub.session g.owner) (row s.hub g.owner) g.link after f here
-    (below_put g.owner d f.lifted f.present g.link g.link after bytes (new.more ++ more) f.here put (λ v at. none_there (sym new.none ∙ at)) f.stays) (welcome ∙ sym new.none) in
+    (below_put g.owner d f.session_links f.present g.link g.link after bytes (new.more ++ more) f.here put (λ v at. none_there (sym new.none ∙ at)) f.stays) (welcome ∙ sym new.none) in
     record {
       focus = focus_calls g t.hub u.hub after leaves (focus_calls g s.hub t.hub after calls moved);
       others = others_trans g.owner h t.hub u.hub (others_trans g.owner h s.hub t.hub new.others calls.moves.others) leaves.moves.others;
@@ -98,7 +98,7 @@ refuses_stands g h draw first bytes place now reason s new asks is =
 
 -- ---- it is admitted
 
--- what a lifted link begins with
+-- what a link of the session begins with
 pause_frames : Kind → List Frame
 pause_frames Management = []
 pause_frames ExtensionHost = pause_frame ∷ []
@@ -145,11 +145,11 @@ admits_going g h draw first bytes place now s new asks admits =
     let w : Welcome = record { epoch = next_epoch o; up = place; down = length t.out; pause = pause_bytes g.owner.kind } in
     let frames : List Frame = pause_frames g.owner.kind in
     let x : Link = link_with A frames g.link.link.is_cut in
-    let lifted : List Link = f.lifted ++ x ∷ [] in
+    let session_links : List Link = f.session_links ++ x ∷ [] in
     let out : t.out ≡ g.link.server.out ++ more = ap (λ (v : List ℕ). v ++ acceptance_bytes g.owner.kind) new.grows ∙ append_assoc g.link.server.out new.more (acceptance_bytes g.owner.kind) in
     let put : IsPut more g.link after bytes = put_first bytes false t g.link draw more out in
     let next : next_epoch o ≡ epoch_of o + 1 = next_is o in
-    let counted : length f.lifted ≡ epoch_of o = f.count in
+    let counted : length f.session_links ≡ epoch_of o = f.count in
     let said : t.out ≡ greeting d.key first (made_text d.own) ++ acceptance_bytes g.owner.kind = ap (λ (v : List ℕ). v ++ acceptance_bytes g.owner.kind) asks.out in
     let begins : Begins t.out after.link.to_a.written =
     subst (λ (k : Link). Begins t.out k.to_a.written) (sym put.link)
@@ -163,16 +163,16 @@ admits_going g h draw first bytes place now s new asks admits =
       down = paused_text g.owner.kind ∙ sym (ap (λ (v : List ℕ). pause_bytes g.owner.kind ++ v) none ∙ append-nil (pause_bytes g.owner.kind));
       cut = refl;
     } in
-    let welcome : IsWelcome g.owner d lifted after w = record {
+    let welcome : IsWelcome g.owner d session_links after w = record {
       theirs = asks.theirs;
       place = at ∙ ap (λ (v : List ℕ). length v) asks.all;
       there = omega (arith, at);
-      lift = x;
-      is_at = number_last f.lifted x (next_epoch o) (omega (arith, next, counted));
+      session_link = x;
+      is_at = number_last f.session_links x (next_epoch o) (omega (arith, next, counted));
       carries = carries;
     } in
-    let under : f.present ≤ length f.lifted = f.view.theirs.there in
-    let seated : IsSeated g.owner lifted f.present after (seat_at g.owner (next_epoch o)) = record {
+    let under : f.present ≤ length f.session_links = f.view.theirs.there in
+    let seated : IsSeated g.owner session_links f.present after (seat_at g.owner (next_epoch o)) = record {
       welcome = w;
       is_there = refl;
       key = refl;
@@ -180,14 +180,14 @@ admits_going g h draw first bytes place now s new asks admits =
       said = omega arith;
       read = λ is z there. absurd (omega (arith, is, under, next, counted));
     } in
-    let here : LinkKeeps g.owner d lifted f.present after =
-    keeps_put g.owner d f.lifted lifted f.present f.present g.link after bytes more f.here new.follows put
+    let here : LinkKeeps g.owner d session_links f.present after =
+    keeps_put g.owner d f.session_links session_links f.present f.present g.link after bytes more f.here new.follows put
     (first, made_text d.own, record { more = []; rest = []; same = ap (λ (v : List ℕ). v ++ []) said }, ap (λ (v : List ℕ). length v) said, refl) welcome seated in
     record {
       focus =
           focus_admitted g (s.hub.session g.owner) (t.hub.session g.owner) o (row t.hub g.owner) g.link after f w frames g.link.link.is_cut refl next (changes.epoch ∙ sym next) changes.there changes.becomes
           (λ said received. paused_honest g.owner.kind said received) here
-          (below_put g.owner d f.lifted f.present g.link g.link after bytes more f.here put (λ v is. none_there (sym new.none ∙ is)) f.stays);
+          (below_put g.owner d f.session_links f.present g.link g.link after bytes more f.here put (λ v is. none_there (sym new.none ∙ is)) f.stays);
       others = others_trans g.owner h s.hub t.hub new.others changes.others;
       front = record { rest = more; same = out };
     }

@@ -116,15 +116,15 @@ fed_view g c h draw bytes piece after now epoch j s session here admits comes =
     let f : Focus g (Some session) r l = subst (λ (o : Option Session). Focus g o r l) here comes.going.focus in
     let t : TurnsAt g session r l f epoch piece j = turns_at g session r l f epoch piece j refl comes.seat admits comes.fits comes.is in
     let n : ℕ = t.own.welcome.epoch in
-    let x : Link = t.own.has.lift in
-    let lifted : List Link = put_number f.lifted n (read_on B j x) in (
+    let x : Link = t.own.has.session_link in
+    let session_links : List Link = put_number f.session_links n (read_on B j x) in (
       g.number,
       n,
-      lifted,
-      subst (λ (p : Peer). View 0 A g.number n p (feed_session epoch piece now session).peer lifted) (sym c.near)
-          (subst (λ (b : List ℕ). View 0 A g.number n g.near (feed_session epoch b now session).peer lifted) (sym t.is)
-          (sides_turned 0 B n g.number (feed_session epoch (take j (readable B x)) now session).peer g.near lifted
-          (link_fed 0 B n g.number session g.near f.lifted t.on.view j epoch now x t.on.there t.fits admits))),
+      session_links,
+      subst (λ (p : Peer). View 0 A g.number n p (feed_session epoch piece now session).peer session_links) (sym c.near)
+          (subst (λ (b : List ℕ). View 0 A g.number n g.near (feed_session epoch b now session).peer session_links) (sym t.is)
+          (sides_turned 0 B n g.number (feed_session epoch (take j (readable B x)) now session).peer g.near session_links
+          (link_fed 0 B n g.number session g.near f.session_links t.on.view j epoch now x t.on.there t.fits admits))),
     )
 
 never_long : (g : Ground) (h : Hub) (draw : ℕ → List ℕ) (bytes piece after : List ℕ) (now epoch j : ℕ) (s : Serving) (session : Session) (stated : ℕ)
@@ -135,7 +135,7 @@ never_long g h draw bytes piece after now epoch j s session stated here comes re
     let f : Focus g (Some session) r l = subst (λ (o : Option Session). Focus g o r l) here comes.going.focus in
     let t : TurnsAt g session r l f epoch piece j =
     turns_at g session r l f epoch piece j refl comes.seat (long_admits epoch piece now session stated refused) comes.fits comes.is in
-    link_within 0 B t.own.welcome.epoch g.number session g.near f.lifted t.on.view j epoch now stated t.own.has.lift t.on.there t.fits
+    link_within 0 B t.own.welcome.epoch g.number session g.near f.session_links t.on.view j epoch now stated t.own.has.session_link t.on.there t.fits
     (subst (λ (b : List ℕ). turn_refusal epoch b now session ≡ Some (too_long stated)) t.is refused)
 
 turned_jobs : (g : Ground) (piece : List ℕ) (now epoch : ℕ) (s : Serving) (session : Session) → s.hub.session g.owner ≡ Some session → turn_refusal epoch piece now session ≡ None

@@ -158,7 +158,7 @@ piece_good g c w bytes k None x over fits is at held =
       follows = follows_read g.link.link bytes k x.here.up is;
     }) held)
 piece_good g c w bytes k (Some seat) x over fits is at held =
-    let own : seat.key ≡ g.owner = own_seat g.owner x.lifted x.present g.link g.link.server.is_over (Some seat) over (subst (λ (o : Option Seat). EndStands g.owner x.lifted x.present g.link g.link.server.is_over o) at x.here.end) in
+    let own : seat.key ≡ g.owner = own_seat g.owner x.session_links x.present g.link g.link.server.is_over (Some seat) over (subst (λ (o : Option Seat). EndStands g.owner x.session_links x.present g.link g.link.server.is_over o) at x.here.end) in
     let same : seat_at g.owner seat.epoch ≡ seat = ap (λ (key : Key). seat_at key seat.epoch) (sym own) in
     subst (λ (v : Seat). KeepsChannels g c (served_by (turns_for bytes) v bytes w.now (serving_at g.link w))) same
     (served_good (turns_for bytes) g c w.hub (draw_at g.link w) [] bytes bytes w.now seat.epoch k (serving_at g.link w)
@@ -215,7 +215,7 @@ is_served bytes k n m f w settled fired keeps client_number link_number client l
         channels = held;
         jobs = jobs;
         end = tt;
-        own = own_seat g.owner x.lifted x.present g.link g.link.server.is_over g.link.server.seat over x.here.end;
+        own = own_seat g.owner x.session_links x.present g.link g.link.server.is_over g.link.server.seat over x.here.end;
       });
     }
 

@@ -31,7 +31,7 @@ pub record Ground : Type 0 where
   pub draws : ℕ → Drawn
   pub number : ℕ
   pub attached : ℕ
-  pub lifted : List Link
+  pub session_links : List Link
   pub place : ℕ
   pub link : GrandLink
 
@@ -49,21 +49,21 @@ ReadsSame number old new = (x : Link) → at_number new number ≡ Some x → (y
 
 -- the session of the key and its row, and this link
 pub record Focus (g : Ground) (session : Option Session) (kept : Option Row) (l : GrandLink) : Type 0 where
-  pub lifted : List Link
+  pub session_links : List Link
   pub present : ℕ
   pub peer : Peer
-  pub view : View 0 A g.number present g.near peer lifted
+  pub view : View 0 A g.number present g.near peer session_links
   pub server : IsServer session peer present
-  pub whole : (x : Link) → at_number lifted present ≡ Some x → WritesWhole peer x
-  pub count : length lifted ≡ epoch_of kept
+  pub whole : (x : Link) → at_number session_links present ≡ Some x → WritesWhole peer x
+  pub count : length session_links ≡ epoch_of kept
   pub both : is_some session ≡ is_some kept
-  pub here : LinkKeeps g.owner (g.draws g.place) lifted present l
-  pub elsewhere : (n : ℕ) (k : GrandLink) → (n ≡ g.place → ⊥) → slice_get g.links n ≡ Some k → LinkKeeps g.owner (g.draws n) lifted present k
+  pub here : LinkKeeps g.owner (g.draws g.place) session_links present l
+  pub elsewhere : (n : ℕ) (k : GrandLink) → (n ≡ g.place → ⊥) → slice_get g.links n ≡ Some k → LinkKeeps g.owner (g.draws n) session_links present k
   pub apart : (n : ℕ) (k : GrandLink) (v u : Welcome) → (n ≡ g.place → ⊥) → slice_get g.links n ≡ Some k → k.server.welcome ≡ Some v
       → l.server.welcome ≡ Some u → v.epoch ≡ u.epoch → ⊥
   pub later : (u : Welcome) → g.attached ≤ g.place → l.server.welcome ≡ Some u → g.number < u.epoch
   pub stays : StaysBelow g.link l
-  pub reads : ReadsSame g.number g.lifted lifted
+  pub reads : ReadsSame g.number g.session_links session_links
 
 -- ---- the ground of a part
 
@@ -75,7 +75,7 @@ ground_of s o c part m l = record {
   draws = part.draws;
   number = part.number;
   attached = part.attached;
-  lifted = part.lifted;
+  session_links = part.session_links;
   place = m;
   link = l;
 }
@@ -85,7 +85,7 @@ below_itself l = record { up = refl; read = refl; place = refl; cut = refl; welc
 
 pub focus : (s : Option Session) (o : Option Row) (c : Client) (part : PartHolds s o c) (m : ℕ) (l : GrandLink) → slice_get c.links m ≡ Some l → Focus (ground_of s o c part m l) s o l
 focus s o c part m l there = record {
-  lifted = part.lifted;
+  session_links = part.session_links;
   present = part.present;
   peer = part.peer;
   view = part.view;
@@ -137,9 +137,9 @@ shakes_stay owner d s old new stays h = record {
   put_all = λ kept. stays.up ∙ h.put_all (sym stays.cut ∙ kept);
 }
 
-attached_stays : (c : Client) (m : ℕ) (new before after : GrandLink) (old lifted : List Link) (number : ℕ) → StaysBelow before after → ReadsSame number old lifted
-    → IsAttached c old number before → IsAttached (with_link (suc m) new c) lifted number after
-attached_stays c m new before after old lifted number stays reads h = record {
+attached_stays : (c : Client) (m : ℕ) (new before after : GrandLink) (old session_links : List Link) (number : ℕ) → StaysBelow before after → ReadsSame number old session_links
+    → IsAttached c old number before → IsAttached (with_link (suc m) new c) session_links number after
+attached_stays c m new before after old session_links number stays reads h = record {
   welcome = h.welcome;
   is_there = stays.welcome h.welcome h.is_there;
   is_number = h.is_number;
@@ -154,24 +154,24 @@ attached_stays c m new before after old lifted number stays reads h = record {
       omega (arith, same, was, place);
 }
 
-stage_stays : (stage : Stage) (c : Client) (m : ℕ) (before after : GrandLink) (draws : ℕ → Drawn) (old lifted : List Link) (number attached : ℕ) → slice_get c.links m ≡ Some before
-    → StaysBelow before after → ReadsSame number old lifted → StageKeeps c draws old number attached stage → StageKeeps (with_link (suc m) after c) draws lifted number attached stage
-stage_stays (stages.Resting until) c m before after draws old lifted number attached there stays reads h = let size = length-set c.links m after in omega (arith, h, size)
-stage_stays (stages.Calling since) c m before after draws old lifted number attached there stays reads h = let size = length-set c.links m after in omega (arith, h, size)
-stage_stays (stages.Shaking since s) c m before after draws old lifted number attached there stays reads h =
+stage_stays : (stage : Stage) (c : Client) (m : ℕ) (before after : GrandLink) (draws : ℕ → Drawn) (old session_links : List Link) (number attached : ℕ) → slice_get c.links m ≡ Some before
+    → StaysBelow before after → ReadsSame number old session_links → StageKeeps c draws old number attached stage → StageKeeps (with_link (suc m) after c) draws session_links number attached stage
+stage_stays (stages.Resting until) c m before after draws old session_links number attached there stays reads h = let size = length-set c.links m after in omega (arith, h, size)
+stage_stays (stages.Calling since) c m before after draws old session_links number attached there stays reads h = let size = length-set c.links m after in omega (arith, h, size)
+stage_stays (stages.Shaking since s) c m before after draws old session_links number attached there stays reads h =
     let size = length-set c.links m after in
     let under = h.0 in (
       omega (arith, under, size),
       last_set c.links m before after (λ n l. Shakes c.key (draws n) s l) (λ n l. Shakes c.key (draws n) s l) there
           (λ shakes. shakes_stay c.key (draws m) s before after stays shakes) (λ n k shakes. shakes) h.1,
     )
-stage_stays stages.Attached c m before after draws old lifted number attached there stays reads h = (
+stage_stays stages.Attached c m before after draws old session_links number attached there stays reads h = (
   h.0 ∙ sym (length-set c.links m after),
-  last_set c.links m before after (λ n l. IsAttached c old number l) (λ n l. IsAttached (with_link (suc m) after c) lifted number l) there
-      (λ is. attached_stays c m after before after old lifted number stays reads is)
-      (λ n k is. attached_stays c m after k k old lifted number (below_itself k) reads is) h.1,
+  last_set c.links m before after (λ n l. IsAttached c old number l) (λ n l. IsAttached (with_link (suc m) after c) session_links number l) there
+      (λ is. attached_stays c m after before after old session_links number stays reads is)
+      (λ n k is. attached_stays c m after k k old session_links number (below_itself k) reads is) h.1,
 )
-stage_stays (stages.Over end) c m before after draws old lifted number attached there stays reads h = let size = length-set c.links m after in omega (arith, h, size)
+stage_stays (stages.Over end) c m before after draws old session_links number attached there stays reads h = let size = length-set c.links m after in omega (arith, h, size)
 
 -- ---- the part of a client whose link it is
 
@@ -183,7 +183,7 @@ unfocus s t o p c part m old l there f = record {
   settings = part.settings;
   pending = part.pending;
   runs = part.runs;
-  lifted = f.lifted;
+  session_links = f.session_links;
   number = part.number;
   present = f.present;
   peer = f.peer;
@@ -194,8 +194,8 @@ unfocus s t o p c part m old l there f = record {
   both = f.both;
   draws = part.draws;
   links = λ n k is. ⊎_elim
-      (λ q. subst (λ (x : GrandLink). LinkKeeps c.key (part.draws n) f.lifted f.present x) q.1
-      (subst (λ (i : ℕ). LinkKeeps c.key (part.draws i) f.lifted f.present l) (sym q.0) f.here))
+      (λ q. subst (λ (x : GrandLink). LinkKeeps c.key (part.draws n) f.session_links f.present x) q.1
+      (subst (λ (i : ℕ). LinkKeeps c.key (part.draws i) f.session_links f.present l) (sym q.0) f.here))
       (λ q. f.elsewhere n k q.0 q.1) (set_cases c.links m n l k is);
   apart = λ n i k x v w one other first second same. ⊎_elim
       (λ q. ⊎_elim (λ r. q.0 ∙ sym r.0)
@@ -207,5 +207,5 @@ unfocus s t o p c part m old l there f = record {
   later = λ n k w is behind welcome. ⊎_elim
       (λ q. f.later w (subst (λ (i : ℕ). part.attached ≤ i) q.0 behind) (ap (λ (y : GrandLink). y.server.welcome) q.1 ∙ welcome))
       (λ q. part.later n k w q.1 behind welcome) (set_cases c.links m n l k is);
-  stage = stage_stays c.dialer.stage c m old l part.draws part.lifted f.lifted part.number part.attached there f.stays f.reads part.stage;
+  stage = stage_stays c.dialer.stage c m old l part.draws part.session_links f.session_links part.number part.attached there f.stays f.reads part.stage;
 }

@@ -83,13 +83,13 @@ pub record Fronts (g : Ground) (bytes : List ℕ) : Type 0 where
 
 opening_was : (g : Ground) (h : Hub) (bytes : List ℕ) (s : Serving) → IsShaking g h bytes s → IsOpening g.link.server
 opening_was g h bytes s x =
-    opening_so g.owner x.focus.lifted x.focus.present g.link g.link.server.is_over g.link.server.seat x.over x.none x.focus.here.end
+    opening_so g.owner x.focus.session_links x.focus.present g.link g.link.server.is_over g.link.server.seat x.over x.none x.focus.here.end
 
 pub fronts : (g : Ground) (h : Hub) (bytes : List ℕ) (s : Serving) → IsShaking g h bytes s → Fronts g bytes
 fronts g h bytes s x =
     let d : Drawn = g.draws g.place in
-    let has : HasWelcome g.owner d x.focus.lifted g.link None =
-    subst (λ (o : Option Welcome). HasWelcome g.owner d x.focus.lifted g.link o) (opening_was g h bytes s x).welcome x.focus.here.welcome in
+    let has : HasWelcome g.owner d x.focus.session_links g.link None =
+    subst (λ (o : Option Welcome). HasWelcome g.owner d x.focus.session_links g.link o) (opening_was g h bytes s x).welcome x.focus.here.welcome in
     let whole : List ℕ = client_text g.owner d.reconnection d.key d.own has.0 in
     let written : List ℕ = g.link.link.to_b.written in
     let read : ℕ = g.link.link.to_b.read in
@@ -215,15 +215,15 @@ waits_so g h next bytes now s x waits drawn speaks =
       out = ap (λ (o : Opened). o.out) alone;
       drawn = drawn ∙ ap (λ (o : Opened). first_draws o.drawn (λ n. first_draw g next)) alone;
     } in
-    let here : LinkKeeps g.owner d f.lifted f.present after =
-    keeps_put g.owner d f.lifted f.lifted f.present f.present g.link after bytes new.more f.here new.follows put
+    let here : LinkKeeps g.owner d f.session_links f.present after =
+    keeps_put g.owner d f.session_links f.session_links f.present f.present g.link after bytes new.more f.here new.follows put
     (subst (λ (o : Option Welcome). Speaks g.owner.kind d.key o t.out) (sym new.welcome) speaks)
-    (welcome_none g.owner d f.lifted f.lifted g.link after bytes new.more put new.none new.welcome f.here.welcome)
-    (opening_stands g.owner f.lifted f.present after false s.seat refl new.seat is) in
+    (welcome_none g.owner d f.session_links f.session_links g.link after bytes new.more put new.none new.welcome f.here.welcome)
+    (opening_stands g.owner f.session_links f.present after false s.seat refl new.seat is) in
     going_stands g h draw bytes now t new.goes_on
     (record {
       focus = focus_moved g (s.hub.session g.owner) (row s.hub g.owner) g.link after f here
-          (below_put g.owner d f.lifted f.present g.link g.link after bytes new.more f.here put (λ v at. none_there (sym new.none ∙ at)) f.stays) (new.welcome ∙ sym new.none);
+          (below_put g.owner d f.session_links f.present g.link g.link after bytes new.more f.here put (λ v at. none_there (sym new.none ∙ at)) f.stays) (new.welcome ∙ sym new.none);
       others = new.others;
       front = record { rest = new.more; same = new.grows };
     })

@@ -67,10 +67,10 @@ changes_by bytes over u n m f w is going =
 
 -- ---- it is left
 
-pub own_seat : (owner : Key) (lifted : List Link) (present : ℕ) (l : GrandLink) (over : Bool) (o : Option Seat) → over ≡ false → EndStands owner lifted present l over o → IsOwn owner o
-own_seat owner lifted present l over None is stands = tt
-own_seat owner lifted present l over (Some seat) is stands =
-    let seated : IsSeated owner lifted present l seat = subst (λ (b : Bool). EndStands owner lifted present l b (Some seat)) is stands in
+pub own_seat : (owner : Key) (session_links : List Link) (present : ℕ) (l : GrandLink) (over : Bool) (o : Option Seat) → over ≡ false → EndStands owner session_links present l over o → IsOwn owner o
+own_seat owner session_links present l over None is stands = tt
+own_seat owner session_links present l over (Some seat) is stands =
+    let seated : IsSeated owner session_links present l seat = subst (λ (b : Bool). EndStands owner session_links present l b (Some seat)) is stands in
     seated.key
 
 pub left_changes : (n m : ℕ) (f : Found) (w : Grand) → WorldKeeps w → f.place.client ≡ suc n → f.place.link ≡ suc m → slice_get w.clients n ≡ Some f.client
@@ -84,7 +84,7 @@ left_changes n m f w keeps client_number link_number client link over =
     let s : Serving = serving_at f.link w in
     changes_by [] true (left w.now s) n m f w is
     (left_over g w.hub (draw_at f.link w) w.now s f.link [] [] x (others_itself f.client.key w.hub) (record { rest = []; same = sym (append-nil f.link.server.out) })
-    (own_seat f.client.key x.lifted x.present f.link f.link.server.is_over f.link.server.seat over x.here.end) refl
+    (own_seat f.client.key x.session_links x.present f.link f.link.server.is_over f.link.server.seat over x.here.end) refl
     (put_first [] true (left w.now s) f.link (draw_at f.link w) [] (sym (append-nil f.link.server.out))) (follows_nothing f.link.link.to_b x.here.up))
 
 -- ---- bytes come
@@ -104,8 +104,8 @@ start g w draw epoch x over at =
     let d = g.draws g.place in
     let after : GrandLink = link_after [] false (serving_at g.link w) g.link draw in
     let put : IsPut [] g.link after [] = put_first [] false (serving_at g.link w) g.link draw [] (sym (append-nil g.link.server.out)) in
-    let seated : IsSeated g.owner x.lifted x.present g.link (seat_at g.owner epoch) = seated_at g s o g.link x epoch over at in
-    let now_seated : IsSeated g.owner x.lifted x.present after (seat_at g.owner epoch) = record {
+    let seated : IsSeated g.owner x.session_links x.present g.link (seat_at g.owner epoch) = seated_at g s o g.link x epoch over at in
+    let now_seated : IsSeated g.owner x.session_links x.present after (seat_at g.owner epoch) = record {
       welcome = seated.welcome;
       is_there = seated.is_there;
       key = refl;
@@ -115,10 +115,10 @@ start g w draw epoch x over at =
     } in
     record {
       focus = focus_moved g s o g.link after x
-          (keeps_put g.owner d x.lifted x.lifted x.present x.present g.link after [] [] x.here (follows_nothing g.link.link.to_b x.here.up) put x.here.speaks
-          (welcome_read g.owner d x.lifted g.link after [] put refl x.here.welcome)
-          (seat_stands g.owner x.lifted x.present after false g.link.server.seat (seat_at g.owner epoch) refl at now_seated))
-          (below_put g.owner d x.lifted x.present g.link g.link after [] [] x.here put (λ u is. is) x.stays) refl;
+          (keeps_put g.owner d x.session_links x.session_links x.present x.present g.link after [] [] x.here (follows_nothing g.link.link.to_b x.here.up) put x.here.speaks
+          (welcome_read g.owner d x.session_links g.link after [] put refl x.here.welcome)
+          (seat_stands g.owner x.session_links x.present after false g.link.server.seat (seat_at g.owner epoch) refl at now_seated))
+          (below_put g.owner d x.session_links x.present g.link g.link after [] [] x.here put (λ u is. is) x.stays) refl;
       others = others_itself g.owner w.hub;
       front = record { rest = []; same = sym (append-nil g.link.server.out) };
     }
@@ -169,7 +169,7 @@ piece_stands g w bytes k None known x over fits is at =
       follows = follows_read g.link.link bytes k x.here.up is;
     }))
 piece_stands g w bytes k (Some seat) known x over fits is at =
-    let own : seat.key ≡ g.owner = own_seat g.owner x.lifted x.present g.link g.link.server.is_over (Some seat) over (subst (λ (o : Option Seat). EndStands g.owner x.lifted x.present g.link g.link.server.is_over o) at x.here.end) in
+    let own : seat.key ≡ g.owner = own_seat g.owner x.session_links x.present g.link g.link.server.is_over (Some seat) over (subst (λ (o : Option Seat). EndStands g.owner x.session_links x.present g.link g.link.server.is_over o) at x.here.end) in
     let same : seat_at g.owner seat.epoch ≡ seat = ap (λ (key : Key). seat_at key seat.epoch) (sym own) in
     subst (λ (v : Seat). Stands g w.hub (draw_at g.link w) bytes w.now (served_by (turns_for bytes) v bytes w.now (serving_at g.link w))) same
     (seat_so g w bytes k seat.epoch x over fits is (at ∙ ap (λ (v : Seat). Some v) (sym same)))

@@ -101,12 +101,12 @@ focus_over : (g : Ground) (s : Option Session) (o : Option Row) (l after : Grand
 focus_over g s o l after f piece put follows same over none =
     let d = g.draws g.place in
     focus_moved g s o l after f
-    (keeps_put g.owner d f.lifted f.lifted f.present f.present l after piece [] f.here follows put
+    (keeps_put g.owner d f.session_links f.session_links f.present f.present l after piece [] f.here follows put
     (subst (λ (q : Option Welcome). Speaks g.owner.kind d.key q after.server.out) (sym same)
     (subst (λ (t : List ℕ). Speaks g.owner.kind d.key l.server.welcome t) (sym (put.out ∙ append-nil l.server.out)) f.here.speaks))
-    (welcome_read g.owner d f.lifted l after piece put same f.here.welcome)
-    (over_stands g.owner f.lifted f.present after after.server.is_over after.server.seat over none))
-    (below_put g.owner d f.lifted f.present g.link l after piece [] f.here put (λ u is. same ∙ is) f.stays) same
+    (welcome_read g.owner d f.session_links l after piece put same f.here.welcome)
+    (over_stands g.owner f.session_links f.present after after.server.is_over after.server.seat over none))
+    (below_put g.owner d f.session_links f.present g.link l after piece [] f.here put (λ u is. same ∙ is) f.stays) same
 
 -- the link that was served so, with the hub after it
 pub left_over : (g : Ground) (h : Hub) (draw : ℕ → List ℕ) (now : ℕ) (s : Serving) (l : GrandLink) (piece after : List ℕ) → Focus g (s.hub.session g.owner) (row s.hub g.owner) l

@@ -58,18 +58,18 @@ follows_nothing d within = follows_none [] d within refl
 
 -- ---- a link and the part of it behind the handshake
 
-pub read_lift : (w : Welcome) (l x : Link) → Carries w l x → x.to_b.read + w.up ≡ l.to_b.read → readable B x ≡ readable B l
-read_lift w l x c at =
+pub read_session_link : (w : Welcome) (l x : Link) → Carries w l x → x.to_b.read + w.up ≡ l.to_b.read → readable B x ≡ readable B l
+read_session_link w l x c at =
     let place : w.up + x.to_b.read ≡ l.to_b.read = omega (arith, at) in
     let rest : drop x.to_b.read x.to_b.written ≡ drop l.to_b.read l.to_b.written =
     ap (λ (t : List ℕ). drop x.to_b.read t) c.up ∙ drop-drop x.to_b.read w.up l.to_b.written ∙ ap (λ (n : ℕ). drop n l.to_b.written) place in
     ap (λ (b : Bool). cond b [] (drop x.to_b.read x.to_b.written)) c.cut ∙ ap (λ (t : List ℕ). cond l.is_cut [] t) rest
 
-down_put : (cut : Bool) (lifted pause written out : List ℕ) (d : ℕ) → lifted ≡ pause ++ drop d written → (cut ≡ false → d ≤ length written)
-    → lifted ++ cond cut [] out ≡ pause ++ drop d (written ++ cond cut [] out)
-down_put true lifted pause written out d is within =
-    append-nil lifted ∙ is ∙ ap (λ (t : List ℕ). pause ++ drop d t) (sym (append-nil written))
-down_put false lifted pause written out d is within =
+down_put : (cut : Bool) (session_links pause written out : List ℕ) (d : ℕ) → session_links ≡ pause ++ drop d written → (cut ≡ false → d ≤ length written)
+    → session_links ++ cond cut [] out ≡ pause ++ drop d (written ++ cond cut [] out)
+down_put true session_links pause written out d is within =
+    append-nil session_links ∙ is ∙ ap (λ (t : List ℕ). pause ++ drop d t) (sym (append-nil written))
+down_put false session_links pause written out d is within =
     ap (λ (t : List ℕ). t ++ out) is ∙ append_assoc pause (drop d written) out ∙ ap (λ (t : List ℕ). pause ++ t) (sym (drop-append-le d written out (within refl)))
 
 -- the same is put on both
@@ -113,10 +113,10 @@ put_all_of : (cut : Bool) (written out more new : List ℕ) → (cut ≡ false �
 put_all_of true written out more new all is uncut = absurd cc
 put_all_of false written out more new all is uncut = ap (λ (t : List ℕ). t ++ more) (all refl) ∙ sym is
 
-pub keeps_put : (owner : Key) (d : Drawn) (old lifted : List Link) (before present : ℕ) (l after : GrandLink) (bytes more : List ℕ) → LinkKeeps owner d old before l → Follows bytes l.link.to_b
-    → IsPut more l after bytes → Speaks owner.kind d.key after.server.welcome after.server.out → HasWelcome owner d lifted after after.server.welcome
-    → EndStands owner lifted present after after.server.is_over after.server.seat → LinkKeeps owner d lifted present after
-keeps_put owner d old lifted before present l after bytes more keeps f put speaks welcome end =
+pub keeps_put : (owner : Key) (d : Drawn) (old session_links : List Link) (before present : ℕ) (l after : GrandLink) (bytes more : List ℕ) → LinkKeeps owner d old before l → Follows bytes l.link.to_b
+    → IsPut more l after bytes → Speaks owner.kind d.key after.server.welcome after.server.out → HasWelcome owner d session_links after after.server.welcome
+    → EndStands owner session_links present after after.server.is_over after.server.seat → LinkKeeps owner d session_links present after
+keeps_put owner d old session_links before present l after bytes more keeps f put speaks welcome end =
     let size = length-append l.link.to_a.written (cond l.link.is_cut [] more) in
     record {
       key_len = keeps.key_len;
@@ -135,9 +135,9 @@ keeps_put owner d old lifted before present l after bytes more keeps f put speak
     }
 
 -- to the client all is as before
-pub below_put : (owner : Key) (d : Drawn) (lifted : List Link) (present : ℕ) (first l after : GrandLink) (bytes more : List ℕ) → LinkKeeps owner d lifted present l → IsPut more l after bytes
+pub below_put : (owner : Key) (d : Drawn) (session_links : List Link) (present : ℕ) (first l after : GrandLink) (bytes more : List ℕ) → LinkKeeps owner d session_links present l → IsPut more l after bytes
     → ((u : Welcome) → l.server.welcome ≡ Some u → after.server.welcome ≡ Some u) → StaysBelow first l → StaysBelow first after
-below_put owner d lifted present first l after bytes more keeps put welcome stays = record {
+below_put owner d session_links present first l after bytes more keeps put welcome stays = record {
   up = ap (λ (k : Link). k.to_b.written) put.link ∙ stays.up;
   read = ap (λ (k : Link). read_of k.to_a) put.link ∙ take-append-le l.link.to_a.read l.link.to_a.written (cond l.link.is_cut [] more) keeps.down ∙ stays.read;
   place = ap (λ (k : Link). k.to_a.read) put.link ∙ stays.place;
@@ -147,29 +147,29 @@ below_put owner d lifted present first l after bytes more keeps put welcome stay
 
 -- ---- the welcome
 
--- the lifted link has become another
-pub welcome_put : (owner : Key) (d : Drawn) (old lifted : List Link) (l after : GrandLink) (w : Welcome) (x : Link) → IsWelcome owner d old l w → after.link.to_b.written ≡ l.link.to_b.written
-    → at_number lifted w.epoch ≡ Some x → Carries w after.link x → IsWelcome owner d lifted after w
-welcome_put owner d old lifted l after w x has up at carries = record {
+-- the session's link has become another
+pub welcome_put : (owner : Key) (d : Drawn) (old session_links : List Link) (l after : GrandLink) (w : Welcome) (x : Link) → IsWelcome owner d old l w → after.link.to_b.written ≡ l.link.to_b.written
+    → at_number session_links w.epoch ≡ Some x → Carries w after.link x → IsWelcome owner d session_links after w
+welcome_put owner d old session_links l after w x has up at carries = record {
   theirs = has.theirs;
   place = has.place;
   there = subst (λ (t : List ℕ). w.up ≤ length t) (sym up) has.there;
-  lift = x;
+  session_link = x;
   is_at = at;
   carries = carries;
 }
 
 -- nothing was put on it
-welcome_by : (owner : Key) (d : Drawn) (lifted : List Link) (l after : GrandLink) (o : Option Welcome) → after.link.to_b.written ≡ l.link.to_b.written → after.link.to_a.written ≡ l.link.to_a.written
-    → after.link.is_cut ≡ l.link.is_cut → HasWelcome owner d lifted l o → HasWelcome owner d lifted after o
-welcome_by owner d lifted l after None up down cut has = (has.0, has.1, ap (λ (t : List ℕ). t ++ has.1) up ∙ has.2)
-welcome_by owner d lifted l after (Some w) up down cut has =
-    let c : Carries w l.link has.lift = has.carries in
+welcome_by : (owner : Key) (d : Drawn) (session_links : List Link) (l after : GrandLink) (o : Option Welcome) → after.link.to_b.written ≡ l.link.to_b.written → after.link.to_a.written ≡ l.link.to_a.written
+    → after.link.is_cut ≡ l.link.is_cut → HasWelcome owner d session_links l o → HasWelcome owner d session_links after o
+welcome_by owner d session_links l after None up down cut has = (has.0, has.1, ap (λ (t : List ℕ). t ++ has.1) up ∙ has.2)
+welcome_by owner d session_links l after (Some w) up down cut has =
+    let c : Carries w l.link has.session_link = has.carries in
     record {
       theirs = has.theirs;
       place = has.place;
       there = subst (λ (t : List ℕ). w.up ≤ length t) (sym up) has.there;
-      lift = has.lift;
+      session_link = has.session_link;
       is_at = has.is_at;
       carries = record {
         up = c.up ∙ ap (λ (t : List ℕ). drop w.up t) (sym up);
@@ -185,42 +185,42 @@ nothing_put false written = append-nil written
 pub written_same : (l after : GrandLink) (bytes : List ℕ) → IsPut [] l after bytes → after.link.to_a.written ≡ l.link.to_a.written
 written_same l after bytes put = ap (λ (k : Link). k.to_a.written) put.link ∙ nothing_put l.link.is_cut l.link.to_a.written
 
-pub welcome_read : (owner : Key) (d : Drawn) (lifted : List Link) (l after : GrandLink) (bytes : List ℕ) → IsPut [] l after bytes → after.server.welcome ≡ l.server.welcome
-    → HasWelcome owner d lifted l l.server.welcome → HasWelcome owner d lifted after after.server.welcome
-welcome_read owner d lifted l after bytes put same has =
-    subst (λ (o : Option Welcome). HasWelcome owner d lifted after o) (sym same)
-    (welcome_by owner d lifted l after l.server.welcome (ap (λ (k : Link). k.to_b.written) put.link) (written_same l after bytes put) (ap (λ (k : Link). k.is_cut) put.link) has)
+pub welcome_read : (owner : Key) (d : Drawn) (session_links : List Link) (l after : GrandLink) (bytes : List ℕ) → IsPut [] l after bytes → after.server.welcome ≡ l.server.welcome
+    → HasWelcome owner d session_links l l.server.welcome → HasWelcome owner d session_links after after.server.welcome
+welcome_read owner d session_links l after bytes put same has =
+    subst (λ (o : Option Welcome). HasWelcome owner d session_links after o) (sym same)
+    (welcome_by owner d session_links l after l.server.welcome (ap (λ (k : Link). k.to_b.written) put.link) (written_same l after bytes put) (ap (λ (k : Link). k.is_cut) put.link) has)
 
 -- a link without a welcome, on which anything was put
-pub welcome_none : (owner : Key) (d : Drawn) (old lifted : List Link) (l after : GrandLink) (bytes more : List ℕ) → IsPut more l after bytes → l.server.welcome ≡ None → after.server.welcome ≡ None
-    → HasWelcome owner d old l l.server.welcome → HasWelcome owner d lifted after after.server.welcome
-welcome_none owner d old lifted l after bytes more put none same has =
+pub welcome_none : (owner : Key) (d : Drawn) (old session_links : List Link) (l after : GrandLink) (bytes more : List ℕ) → IsPut more l after bytes → l.server.welcome ≡ None → after.server.welcome ≡ None
+    → HasWelcome owner d old l l.server.welcome → HasWelcome owner d session_links after after.server.welcome
+welcome_none owner d old session_links l after bytes more put none same has =
     let was : HasWelcome owner d old l None = subst (λ (o : Option Welcome). HasWelcome owner d old l o) none has in
-    subst (λ (o : Option Welcome). HasWelcome owner d lifted after o) (sym same)
+    subst (λ (o : Option Welcome). HasWelcome owner d session_links after o) (sym same)
     (was.0, was.1, ap (λ (t : List ℕ). t ++ was.1) (ap (λ (k : Link). k.to_b.written) put.link) ∙ was.2)
 
 -- ---- an end that is over
 
-pub over_stands : (owner : Key) (lifted : List Link) (present : ℕ) (l : GrandLink) (over : Bool) (seat : Option Seat) → over ≡ true → seat ≡ None → EndStands owner lifted present l over seat
-over_stands owner lifted present l true seat is none = none
-over_stands owner lifted present l false seat is none = absurd cc
+pub over_stands : (owner : Key) (session_links : List Link) (present : ℕ) (l : GrandLink) (over : Bool) (seat : Option Seat) → over ≡ true → seat ≡ None → EndStands owner session_links present l over seat
+over_stands owner session_links present l true seat is none = none
+over_stands owner session_links present l false seat is none = absurd cc
 
-pub seat_stands : (owner : Key) (lifted : List Link) (present : ℕ) (l : GrandLink) (over : Bool) (o : Option Seat) (seat : Seat) → over ≡ false → o ≡ Some seat → IsSeated owner lifted present l seat
-    → EndStands owner lifted present l over o
-seat_stands owner lifted present l over o seat is at seated =
-    subst (λ (b : Bool). EndStands owner lifted present l b o) (sym is) (subst (λ (s : Option Seat). EndStands owner lifted present l false s) (sym at) seated)
+pub seat_stands : (owner : Key) (session_links : List Link) (present : ℕ) (l : GrandLink) (over : Bool) (o : Option Seat) (seat : Seat) → over ≡ false → o ≡ Some seat → IsSeated owner session_links present l seat
+    → EndStands owner session_links present l over o
+seat_stands owner session_links present l over o seat is at seated =
+    subst (λ (b : Bool). EndStands owner session_links present l b o) (sym is) (subst (λ (s : Option Seat). EndStands owner session_links present l false s) (sym at) seated)
 
-pub seated_so : (owner : Key) (lifted : List Link) (present : ℕ) (l : GrandLink) (over : Bool) (o : Option Seat) (seat : Seat) → over ≡ false → o ≡ Some seat → EndStands owner lifted present l over o
-    → IsSeated owner lifted present l seat
-seated_so owner lifted present l over o seat is at stands =
-    subst (λ (s : Option Seat). EndStands owner lifted present l false s) at (subst (λ (b : Bool). EndStands owner lifted present l b o) is stands)
+pub seated_so : (owner : Key) (session_links : List Link) (present : ℕ) (l : GrandLink) (over : Bool) (o : Option Seat) (seat : Seat) → over ≡ false → o ≡ Some seat → EndStands owner session_links present l over o
+    → IsSeated owner session_links present l seat
+seated_so owner session_links present l over o seat is at stands =
+    subst (λ (s : Option Seat). EndStands owner session_links present l false s) at (subst (λ (b : Bool). EndStands owner session_links present l b o) is stands)
 
-pub opening_so : (owner : Key) (lifted : List Link) (present : ℕ) (l : GrandLink) (over : Bool) (o : Option Seat) → over ≡ false → o ≡ None → EndStands owner lifted present l over o
+pub opening_so : (owner : Key) (session_links : List Link) (present : ℕ) (l : GrandLink) (over : Bool) (o : Option Seat) → over ≡ false → o ≡ None → EndStands owner session_links present l over o
     → IsOpening l.server
-opening_so owner lifted present l over o is none stands =
-    subst (λ (s : Option Seat). EndStands owner lifted present l false s) none (subst (λ (b : Bool). EndStands owner lifted present l b o) is stands)
+opening_so owner session_links present l over o is none stands =
+    subst (λ (s : Option Seat). EndStands owner session_links present l false s) none (subst (λ (b : Bool). EndStands owner session_links present l b o) is stands)
 
-pub opening_stands : (owner : Key) (lifted : List Link) (present : ℕ) (l : GrandLink) (over : Bool) (o : Option Seat) → over ≡ false → o ≡ None → IsOpening l.server
-    → EndStands owner lifted present l over o
-opening_stands owner lifted present l over o is none opening =
-    subst (λ (b : Bool). EndStands owner lifted present l b o) (sym is) (subst (λ (s : Option Seat). EndStands owner lifted present l false s) (sym none) opening)
+pub opening_stands : (owner : Key) (session_links : List Link) (present : ℕ) (l : GrandLink) (over : Bool) (o : Option Seat) → over ≡ false → o ≡ None → IsOpening l.server
+    → EndStands owner session_links present l over o
+opening_stands owner session_links present l over o is none opening =
+    subst (λ (b : Bool). EndStands owner session_links present l b o) (sym is) (subst (λ (s : Option Seat). EndStands owner session_links present l false s) (sym none) opening)

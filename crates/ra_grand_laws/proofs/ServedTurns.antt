@@ -33,8 +33,8 @@ use Rattle.ra_grand_laws.specs.Handshakes.{greeting, Speaks}
 use Rattle.ra_grand_laws.specs.Parts.{Carries, HasWelcome, IsWelcome, IsSeated, WritesWhole}
 use Rattle.ra_grand_laws.proofs.Lists.{there_is, number_same}
 use Rattle.ra_grand_laws.proofs.ServedFocus.{Ground, Focus}
-use Rattle.ra_grand_laws.proofs.ServedMoves.{focus_lifted}
-use Rattle.ra_grand_laws.proofs.ServedTexts.{Follows, IsPut, follows_read, follows_nothing, read_lift, carries_put, carries_read, keeps_put, below_put, welcome_put, written_same, seat_stands, seated_so}
+use Rattle.ra_grand_laws.proofs.ServedMoves.{focus_session_links}
+use Rattle.ra_grand_laws.proofs.ServedTexts.{Follows, IsPut, follows_read, follows_nothing, read_session_link, carries_put, carries_read, keeps_put, below_put, welcome_put, written_same, seat_stands, seated_so}
 use Rattle.ra_grand_laws.proofs.WholeTexts.{joining_later, out_or_none, view_dropped}
 
 abbrev pub seat_at : Key → ℕ → Seat
@@ -46,22 +46,22 @@ pub record Welcomed (g : Ground) (s : Option Session) (o : Option Row) (l : Gran
   pub welcome : Welcome
   pub there : l.server.welcome ≡ Some welcome
   pub number : epoch ≡ welcome.epoch
-  pub has : IsWelcome g.owner (g.draws g.place) f.lifted l welcome
+  pub has : IsWelcome g.owner (g.draws g.place) f.session_links l welcome
   pub said : welcome.down ≤ length l.server.out
 
 pub seated_at : (g : Ground) (s : Option Session) (o : Option Row) (l : GrandLink) (f : Focus g s o l) (epoch : ℕ) → l.server.is_over ≡ false → l.server.seat ≡ Some (seat_at g.owner epoch)
-    → IsSeated g.owner f.lifted f.present l (seat_at g.owner epoch)
-seated_at g s o l f epoch over at = seated_so g.owner f.lifted f.present l l.server.is_over l.server.seat (seat_at g.owner epoch) over at f.here.end
+    → IsSeated g.owner f.session_links f.present l (seat_at g.owner epoch)
+seated_at g s o l f epoch over at = seated_so g.owner f.session_links f.present l l.server.is_over l.server.seat (seat_at g.owner epoch) over at f.here.end
 
 pub welcomed_at : (g : Ground) (s : Option Session) (o : Option Row) (l : GrandLink) (f : Focus g s o l) (epoch : ℕ) → l.server.is_over ≡ false → l.server.seat ≡ Some (seat_at g.owner epoch)
     → Welcomed g s o l f epoch
 welcomed_at g s o l f epoch over at =
-    let seated : IsSeated g.owner f.lifted f.present l (seat_at g.owner epoch) = seated_at g s o l f epoch over at in
+    let seated : IsSeated g.owner f.session_links f.present l (seat_at g.owner epoch) = seated_at g s o l f epoch over at in
     record {
       welcome = seated.welcome;
       there = seated.is_there;
       number = seated.number;
-      has = subst (λ (q : Option Welcome). HasWelcome g.owner (g.draws g.place) f.lifted l q) seated.is_there f.here.welcome;
+      has = subst (λ (q : Option Welcome). HasWelcome g.owner (g.draws g.place) f.session_links l q) seated.is_there f.here.welcome;
       said = seated.said;
     }
 
@@ -97,20 +97,20 @@ speaks_more kind key out more new w (own, theirs, agrees, down, pause) said is =
 -- the session is on the link of this welcome, of which these bytes were read, and on which those were put
 pub focus_on : (g : Ground) (s : Option Session) (t : Session) (o : Option Row) (l after : GrandLink) (f : Focus g s o l) (epoch : ℕ) (p : Welcomed g s o l f epoch) (piece more : List ℕ) (y : Link)
     → after.server.is_over ≡ false → after.server.seat ≡ Some (seat_at g.owner epoch) → after.server.welcome ≡ l.server.welcome → IsPut more l after piece → Follows piece l.link.to_b
-    → y.to_b.read + p.welcome.up ≡ after.link.to_b.read → y.to_a.read ≡ p.has.lift.to_a.read → Carries p.welcome after.link y
-    → View 0 B p.welcome.epoch g.number t.peer g.near (put_number f.lifted p.welcome.epoch y) → WritesWhole t.peer y → t.peer.endpoint.epoch ≡ p.welcome.epoch → IsRunning t
+    → y.to_b.read + p.welcome.up ≡ after.link.to_b.read → y.to_a.read ≡ p.has.session_link.to_a.read → Carries p.welcome after.link y
+    → View 0 B p.welcome.epoch g.number t.peer g.near (put_number f.session_links p.welcome.epoch y) → WritesWhole t.peer y → t.peer.endpoint.epoch ≡ p.welcome.epoch → IsRunning t
     → is_some s ≡ true → Focus g (Some t) o after
 focus_on g s t o l after f epoch p piece more y over seat same put follows read place carries view whole number runs there =
     let w : Welcome = p.welcome in
-    let lifted : List Link = put_number f.lifted w.epoch y in
+    let session_links : List Link = put_number f.session_links w.epoch y in
     let d = g.draws g.place in
     let is : after.server.welcome ≡ Some w = same ∙ p.there in
-    let at : at_number lifted w.epoch ≡ Some y = number_same f.lifted w.epoch y p.has.lift p.has.is_at in
+    let at : at_number session_links w.epoch ≡ Some y = number_same f.session_links w.epoch y p.has.session_link p.has.is_at in
     let size : length after.server.out ≡ length l.server.out + length more = ap (λ (v : List ℕ). length v) put.out ∙ length-append l.server.out more in
     let was : w.down ≤ length l.server.out = p.said in
     let said : w.down ≤ length after.server.out = omega (arith, size, was) in
     let up : after.link.to_b.written ≡ l.link.to_b.written = ap (λ (k : Link). k.to_b.written) put.link in
-    let seated : IsSeated g.owner lifted w.epoch after (seat_at g.owner epoch) = record {
+    let seated : IsSeated g.owner session_links w.epoch after (seat_at g.owner epoch) = record {
       welcome = w;
       is_there = is;
       key = refl;
@@ -122,12 +122,12 @@ focus_on g s t o l after f epoch p piece more y over seat same put follows read 
     subst (λ (q : Option Welcome). Speaks g.owner.kind d.key q after.server.out) (sym is)
     (speaks_more g.owner.kind d.key l.server.out more after.server.out w
     (subst (λ (q : Option Welcome). Speaks g.owner.kind d.key q l.server.out) p.there f.here.speaks) was put.out) in
-    let welcome : HasWelcome g.owner d lifted after after.server.welcome =
-    subst (λ (q : Option Welcome). HasWelcome g.owner d lifted after q) (sym is) (welcome_put g.owner d f.lifted lifted l after w y p.has up at carries) in
-    focus_lifted g s (Some t) o l after f w t.peer p.has.lift y p.there is p.has.is_at place view (refl, number, runs) whole (sym there)
-    (keeps_put g.owner d f.lifted lifted f.present w.epoch l after piece more f.here follows put speaks welcome
-    (seat_stands g.owner lifted w.epoch after after.server.is_over after.server.seat (seat_at g.owner epoch) over seat seated))
-    (below_put g.owner d f.lifted f.present g.link l after piece more f.here put (λ u has. same ∙ has) f.stays)
+    let welcome : HasWelcome g.owner d session_links after after.server.welcome =
+    subst (λ (q : Option Welcome). HasWelcome g.owner d session_links after q) (sym is) (welcome_put g.owner d f.session_links session_links l after w y p.has up at carries) in
+    focus_session_links g s (Some t) o l after f w t.peer p.has.session_link y p.there is p.has.is_at place view (refl, number, runs) whole (sym there)
+    (keeps_put g.owner d f.session_links session_links f.present w.epoch l after piece more f.here follows put speaks welcome
+    (seat_stands g.owner session_links w.epoch after after.server.is_over after.server.seat (seat_at g.owner epoch) over seat seated))
+    (below_put g.owner d f.session_links f.present g.link l after piece more f.here put (λ u has. same ∙ has) f.stays)
 
 -- ---- a turn that is not refused
 
@@ -149,10 +149,10 @@ turn_out : (epoch : ℕ) (piece : List ℕ) (now : ℕ) (s : Session) → ((turn
 unfolding turn take_turn take_out turn_answer taken_answer
 turn_out epoch piece now s = out_or_none (take_in now (feed_session epoch piece now s)).peer.endpoint
 
--- the session in its view, on the lifted link that is its present one
-pub record OnLift (g : Ground) (s : Session) (lifted : List Link) (n : ℕ) (x : Link) (epoch : ℕ) : Type 0 where
-  pub view : View 0 B n g.number s.peer g.near lifted
-  pub there : at_number lifted n ≡ Some x
+-- the session in its view, on the session's link that is its present one
+pub record OnSessionLink (g : Ground) (s : Session) (session_links : List Link) (n : ℕ) (x : Link) (epoch : ℕ) : Type 0 where
+  pub view : View 0 B n g.number s.peer g.near session_links
+  pub there : at_number session_links n ≡ Some x
   pub whole : WritesWhole s.peer x
   pub admits : feed_refusal epoch s ≡ None
 
@@ -160,22 +160,22 @@ nothing_put : (cut : Bool) (written out : List ℕ) → out ≡ [] → written +
 nothing_put true written out none = append-nil written
 nothing_put false written out none = ap (λ (t : List ℕ). written ++ t) none ∙ append-nil written
 
-turn_view : (g : Ground) (s : Session) (lifted : List Link) (n : ℕ) (x : Link) (epoch : ℕ) (piece : List ℕ) (j now : ℕ) → OnLift g s lifted n x epoch → j ≤ length (readable B x)
+turn_view : (g : Ground) (s : Session) (session_links : List Link) (n : ℕ) (x : Link) (epoch : ℕ) (piece : List ℕ) (j now : ℕ) → OnSessionLink g s session_links n x epoch → j ≤ length (readable B x)
     → piece ≡ take j (readable B x)
-    → View 0 B n g.number (turn epoch piece now s).peer g.near (put_number lifted n (written_to A (turn_answer epoch piece now s).out (read_on B j x)))
-turn_view g s lifted n x epoch piece j now on fits is =
-    subst (λ (t : List ℕ). View 0 B n g.number (turn epoch t now s).peer g.near (put_number lifted n (written_to A (turn_answer epoch t now s).out (read_on B j x)))) (sym is)
-    (link_turned 0 B n g.number s g.near lifted on.view j epoch now x on.there fits on.admits)
+    → View 0 B n g.number (turn epoch piece now s).peer g.near (put_number session_links n (written_to A (turn_answer epoch piece now s).out (read_on B j x)))
+turn_view g s session_links n x epoch piece j now on fits is =
+    subst (λ (t : List ℕ). View 0 B n g.number (turn epoch t now s).peer g.near (put_number session_links n (written_to A (turn_answer epoch t now s).out (read_on B j x)))) (sym is)
+    (link_turned 0 B n g.number s g.near session_links on.view j epoch now x on.there fits on.admits)
 
 -- where nothing goes out, all that is on the link was there
-same_text : (epoch : ℕ) (piece : List ℕ) (now : ℕ) (g : Ground) (s : Session) (lifted : List Link) (n : ℕ) (x : Link) → OnLift g s lifted n x epoch → x.is_cut ≡ false
+same_text : (epoch : ℕ) (piece : List ℕ) (now : ℕ) (g : Ground) (s : Session) (session_links : List Link) (n : ℕ) (x : Link) → OnSessionLink g s session_links n x epoch → x.is_cut ≡ false
     → IsJoining 0 (messages (turn epoch piece now s).peer.endpoint) (turn epoch piece now s).peer.endpoint.received x.to_a.written
-same_text epoch piece now g s lifted n x on kept =
+same_text epoch piece now g s session_links n x on kept =
     joining_later s.peer (turn epoch piece now s).peer x.to_a.written (rises_turn epoch piece now s) (on.whole kept (fed_on epoch s on.admits).1)
 
-turn_whole : (g : Ground) (s : Session) (lifted : List Link) (n : ℕ) (x : Link) (epoch : ℕ) (piece : List ℕ) (j now : ℕ) → OnLift g s lifted n x epoch → j ≤ length (readable B x)
+turn_whole : (g : Ground) (s : Session) (session_links : List Link) (n : ℕ) (x : Link) (epoch : ℕ) (piece : List ℕ) (j now : ℕ) → OnSessionLink g s session_links n x epoch → j ≤ length (readable B x)
     → piece ≡ take j (readable B x) → WritesWhole (turn epoch piece now s).peer (written_to A (turn_answer epoch piece now s).out (read_on B j x))
-turn_whole g s lifted n x epoch piece j now on fits is kept up = by (turn_out epoch piece now s)
+turn_whole g s session_links n x epoch piece j now on fits is kept up = by (turn_out epoch piece now s)
   where
     after : Peer
     after = (turn epoch piece now s).peer
@@ -189,13 +189,13 @@ turn_whole g s lifted n x epoch piece j now on fits is kept up = by (turn_out ep
     by : (out ≡ []) ⊎ (after.endpoint.unwritten ≡ []) → IsJoining 0 (messages after.endpoint) after.endpoint.received y.to_a.written
     by (inl none) =
         subst (λ (t : List ℕ). IsJoining 0 (messages after.endpoint) after.endpoint.received t) (sym (nothing_put x.is_cut x.to_a.written out none))
-        (same_text epoch piece now g s lifted n x on kept)
+        (same_text epoch piece now g s session_links n x on kept)
     by (inr none) =
-        let v = turn_view g s lifted n x epoch piece j now on fits is in
+        let v = turn_view g s session_links n x epoch piece j now on fits is in
         subst (λ (t : List ℕ). IsJoining 0 (messages after.endpoint) after.endpoint.received t) (append-nil y.to_a.written)
         (subst (λ (t : List ℕ). IsJoining 0 (messages after.endpoint) after.endpoint.received (y.to_a.written ++ t)) none
         (subst (λ (b : ℕ). IsJoining b (messages after.endpoint) after.endpoint.received (y.to_a.written ++ after.endpoint.unwritten)) v.base
-        (v.mine.whole y (number_same lifted n y x on.there) kept up)))
+        (v.mine.whole y (number_same session_links n y x on.there) kept up)))
 
 -- ---- a turn whose bytes are dropped
 
@@ -208,9 +208,9 @@ nothing_on out j x none =
     ap (λ (t : List ℕ). record { to_a = record { written = t; read = x.to_a.read }; to_b = record { written = x.to_b.written; read = x.to_b.read + j }; is_cut = x.is_cut })
     (nothing_put x.is_cut x.to_a.written out none)
 
-dropped_view : (g : Ground) (s : Session) (lifted : List Link) (n : ℕ) (x : Link) (epoch : ℕ) (piece : List ℕ) (j now : ℕ) → OnLift g s lifted n x epoch → j ≤ length (readable B x)
-    → piece ≡ take j (readable B x) → View 0 B n g.number (turn epoch piece now s).peer g.near (put_number lifted n (read_on B j x))
-dropped_view g s lifted n x epoch piece j now on fits is = by (turn_out epoch piece now s)
+dropped_view : (g : Ground) (s : Session) (session_links : List Link) (n : ℕ) (x : Link) (epoch : ℕ) (piece : List ℕ) (j now : ℕ) → OnSessionLink g s session_links n x epoch → j ≤ length (readable B x)
+    → piece ≡ take j (readable B x) → View 0 B n g.number (turn epoch piece now s).peer g.near (put_number session_links n (read_on B j x))
+dropped_view g s session_links n x epoch piece j now on fits is = by (turn_out epoch piece now s)
   where
     after : Peer
     after = (turn epoch piece now s).peer
@@ -221,43 +221,43 @@ dropped_view g s lifted n x epoch piece j now on fits is = by (turn_out epoch pi
     y : Link
     y = written_to A out (read_on B j x)
 
-    v : View 0 B n g.number after g.near (put_number lifted n y)
-    v = turn_view g s lifted n x epoch piece j now on fits is
+    v : View 0 B n g.number after g.near (put_number session_links n y)
+    v = turn_view g s session_links n x epoch piece j now on fits is
 
-    by : (out ≡ []) ⊎ (after.endpoint.unwritten ≡ []) → View 0 B n g.number after g.near (put_number lifted n (read_on B j x))
-    by (inl none) = subst (λ (k : Link). View 0 B n g.number after g.near (put_number lifted n k)) (nothing_on out j x none) v
+    by : (out ≡ []) ⊎ (after.endpoint.unwritten ≡ []) → View 0 B n g.number after g.near (put_number session_links n (read_on B j x))
+    by (inl none) = subst (λ (k : Link). View 0 B n g.number after g.near (put_number session_links n k)) (nothing_on out j x none) v
     by (inr none) =
-        subst (λ (ls : List Link). View 0 B n g.number after g.near ls) (put_again lifted n y (read_on B j x))
-        (view_dropped n g.number after g.near (put_number lifted n y) y x.to_a.written (cond x.is_cut [] out) v (number_same lifted n y x on.there) none refl
-        (on.view.their_reads.inside n x on.there) (λ kept up. same_text epoch piece now g s lifted n x on kept))
+        subst (λ (ls : List Link). View 0 B n g.number after g.near ls) (put_again session_links n y (read_on B j x))
+        (view_dropped n g.number after g.near (put_number session_links n y) y x.to_a.written (cond x.is_cut [] out) v (number_same session_links n y x on.there) none refl
+        (on.view.their_reads.inside n x on.there) (λ kept up. same_text epoch piece now g s session_links n x on kept))
 
 -- ---- the link of the seat, in a turn
 
 pub record TurnsAt (g : Ground) (s : Session) (o : Option Row) (l : GrandLink) (f : Focus g (Some s) o l) (epoch : ℕ) (piece : List ℕ) (j : ℕ) : Type 0 where
   pub own : Welcomed g (Some s) o l f epoch
-  pub on : OnLift g s f.lifted own.welcome.epoch own.has.lift epoch
-  pub fits : j ≤ length (readable B own.has.lift)
-  pub is : piece ≡ take j (readable B own.has.lift)
+  pub on : OnSessionLink g s f.session_links own.welcome.epoch own.has.session_link epoch
+  pub fits : j ≤ length (readable B own.has.session_link)
+  pub is : piece ≡ take j (readable B own.has.session_link)
   pub size : length piece ≡ j
-  pub read : own.has.lift.to_b.read + own.welcome.up ≡ l.link.to_b.read
+  pub read : own.has.session_link.to_b.read + own.welcome.up ≡ l.link.to_b.read
 
 pub turns_at : (g : Ground) (s : Session) (o : Option Row) (l : GrandLink) (f : Focus g (Some s) o l) (epoch : ℕ) (piece : List ℕ) (j : ℕ) → l.server.is_over ≡ false
     → l.server.seat ≡ Some (seat_at g.owner epoch) → feed_refusal epoch s ≡ None → j ≤ length (readable B l.link) → piece ≡ take j (readable B l.link) → TurnsAt g s o l f epoch piece j
 turns_at g s o l f epoch piece j over at admits fits is =
     let own : Welcomed g (Some s) o l f epoch = welcomed_at g (Some s) o l f epoch over at in
     let w : Welcome = own.welcome in
-    let x : Link = own.has.lift in
+    let x : Link = own.has.session_link in
     let fed : epoch ≡ s.peer.endpoint.epoch = (fed_on epoch s admits).0 in
     let here : epoch ≡ f.present = fed ∙ f.server.1 in
     let present : f.present ≡ w.epoch = sym here ∙ own.number in
-    let there : at_number f.lifted f.present ≡ Some x = ap (λ (n : ℕ). at_number f.lifted n) present ∙ own.has.is_at in
+    let there : at_number f.session_links f.present ≡ Some x = ap (λ (n : ℕ). at_number f.session_links n) present ∙ own.has.is_at in
     let read : x.to_b.read + w.up ≡ l.link.to_b.read = (seated_read (seated_at g (Some s) o l f epoch over at) own.there here x there) in
-    let same : readable B x ≡ readable B l.link = read_lift w l.link x own.has.carries read in
+    let same : readable B x ≡ readable B l.link = read_session_link w l.link x own.has.carries read in
     record {
       own = own;
       on = record {
-        view = subst (λ (n : ℕ). View 0 B n g.number s.peer g.near f.lifted) present
-            (subst (λ (p : Peer). View 0 B f.present g.number p g.near f.lifted) f.server.0 (turned 0 A g.number f.present g.near f.peer f.lifted f.view));
+        view = subst (λ (n : ℕ). View 0 B n g.number s.peer g.near f.session_links) present
+            (subst (λ (p : Peer). View 0 B f.present g.number p g.near f.session_links) f.server.0 (turned 0 A g.number f.present g.near f.peer f.session_links f.view));
         there = own.has.is_at;
         whole = subst (λ (p : Peer). WritesWhole p x) f.server.0 (f.whole x there);
         admits = admits;
@@ -268,8 +268,8 @@ turns_at g s o l f epoch piece j over at admits fits is =
       read = read;
     }
   where
-    seated_read : IsSeated g.owner f.lifted f.present l (seat_at g.owner epoch) → {w : Welcome} → l.server.welcome ≡ Some w → epoch ≡ f.present → (x : Link)
-        → at_number f.lifted f.present ≡ Some x → x.to_b.read + w.up ≡ l.link.to_b.read
+    seated_read : IsSeated g.owner f.session_links f.present l (seat_at g.owner epoch) → {w : Welcome} → l.server.welcome ≡ Some w → epoch ≡ f.present → (x : Link)
+        → at_number f.session_links f.present ≡ Some x → x.to_b.read + w.up ≡ l.link.to_b.read
     seated_read seated there here x is = subst (λ (u : Welcome). x.to_b.read + u.up ≡ l.link.to_b.read) (there_is (sym seated.is_there ∙ there)) (seated.read here x is)
 
 pub focus_turned : (g : Ground) (s : Session) (o : Option Row) (l after : GrandLink) (f : Focus g (Some s) o l) (epoch : ℕ) (piece : List ℕ) (j now : ℕ) → l.server.is_over ≡ false
@@ -279,7 +279,7 @@ pub focus_turned : (g : Ground) (s : Session) (o : Option Row) (l after : GrandL
 focus_turned g s o l after f epoch piece j now over at admits fits is over' at' same put =
     let t : TurnsAt g s o l f epoch piece j = turns_at g s o l f epoch piece j over at admits fits is in
     let w : Welcome = t.own.welcome in
-    let x : Link = t.own.has.lift in
+    let x : Link = t.own.has.session_link in
     let out : List ℕ = (turn_answer epoch piece now s).out in
     let number = number_turn epoch piece now s in
     let read : after.link.to_b.read ≡ l.link.to_b.read + length piece = ap (λ (k : Link). k.to_b.read) put.link in
@@ -289,7 +289,7 @@ focus_turned g s o l after f epoch piece j now over at admits fits is over' at' 
     focus_on g (Some s) (turn epoch piece now s) o l after f epoch t.own piece out (written_to A out (read_on B j x)) over' at' same put
     (follows_read l.link piece j f.here.up is) (omega (arith, read, was, size)) refl
     (carries_put w l.link x after.link j (length piece) out t.own.has.carries (λ kept. subst (λ (v : List ℕ). w.down ≤ length v) (sym (f.here.put_all kept)) said) put.link)
-    (turn_view g s f.lifted w.epoch x epoch piece j now t.on t.fits t.is) (turn_whole g s f.lifted w.epoch x epoch piece j now t.on t.fits t.is)
+    (turn_view g s f.session_links w.epoch x epoch piece j now t.on t.fits t.is) (turn_whole g s f.session_links w.epoch x epoch piece j now t.on t.fits t.is)
     (number.0 ∙ sym (fed_on epoch s admits).0 ∙ t.own.number) (number.1 f.server.2) refl
 
 -- the turn is made, and nothing is put on the link
@@ -300,7 +300,7 @@ pub focus_spoiled : (g : Ground) (s : Session) (o : Option Row) (l after : Grand
 focus_spoiled g s o l after f epoch piece j now over at admits fits is over' at' same put =
     let t : TurnsAt g s o l f epoch piece j = turns_at g s o l f epoch piece j over at admits fits is in
     let w : Welcome = t.own.welcome in
-    let x : Link = t.own.has.lift in
+    let x : Link = t.own.has.session_link in
     let number = number_turn epoch piece now s in
     let read : after.link.to_b.read ≡ l.link.to_b.read + length piece = ap (λ (k : Link). k.to_b.read) put.link in
     let was = t.read in
@@ -308,7 +308,7 @@ focus_spoiled g s o l after f epoch piece j now over at admits fits is over' at'
     focus_on g (Some s) (turn epoch piece now s) o l after f epoch t.own piece [] (read_on B j x) over' at' same put
     (follows_read l.link piece j f.here.up is) (omega (arith, read, was, size)) refl
     (carries_read w l.link x after.link j t.own.has.carries (ap (λ (k : Link). k.to_b.written) put.link) (written_same l after piece put) (ap (λ (k : Link). k.is_cut) put.link))
-    (dropped_view g s f.lifted w.epoch x epoch piece j now t.on t.fits t.is) (λ kept up. same_text epoch piece now g s f.lifted w.epoch x t.on kept)
+    (dropped_view g s f.session_links w.epoch x epoch piece j now t.on t.fits t.is) (λ kept up. same_text epoch piece now g s f.session_links w.epoch x t.on kept)
     (number.0 ∙ sym (fed_on epoch s admits).0 ∙ t.own.number) (number.1 f.server.2) refl
 
 -- ---- the session begins on the link
@@ -341,13 +341,13 @@ pub focus_attached : (g : Ground) (s : Session) (o : Option Row) (l : GrandLink)
 focus_attached g s o l f epoch now over at admits all =
     let own : Welcomed g (Some s) o l f epoch = welcomed_at g (Some s) o l f epoch over at in
     let w : Welcome = own.welcome in
-    let x : Link = own.has.lift in
+    let x : Link = own.has.session_link in
     let less : s.peer.endpoint.epoch < epoch = attaches_later epoch s admits in
     let number : epoch ≡ w.epoch = own.number in
     let present : s.peer.endpoint.epoch ≡ f.present = f.server.1 in
     let later : f.present < w.epoch = omega (arith, less, number, present) in
-    let view : View 0 B f.present g.number s.peer g.near f.lifted =
-    subst (λ (p : Peer). View 0 B f.present g.number p g.near f.lifted) f.server.0 (turned 0 A g.number f.present g.near f.peer f.lifted f.view) in
+    let view : View 0 B f.present g.number s.peer g.near f.session_links =
+    subst (λ (p : Peer). View 0 B f.present g.number p g.near f.session_links) f.server.0 (turned 0 A g.number f.present g.near f.peer f.session_links f.view) in
     let on = number_attach epoch [] now s f.server.2 admits in
     let fresh : x.to_b.read ≡ 0 = view.reads.fresh w.epoch x own.has.is_at later in
     let read : l.link.to_b.read ≡ w.up = all w own.there in
@@ -357,5 +357,5 @@ focus_attached g s o l f epoch now over at admits all =
     (subst (λ (b : ℕ). IsJoining b (messages s.peer.endpoint) s.peer.endpoint.received x.to_a.written) view.base (view.mine.fresh w.epoch x own.has.is_at later)) in
     focus_on g (Some s) (attach epoch [] now s) o l l f epoch own [] [] (read_on B 0 x) over at refl (put_nothing l) (follows_nothing l.link.to_b f.here.up)
     (omega (arith, fresh, read)) refl (carries_read w l.link x l.link 0 own.has.carries refl refl refl)
-    (link_attached 0 B f.present g.number s g.near f.lifted view w.epoch 0 epoch now x later own.has.is_at (omega arith) f.server.2 admits) whole
+    (link_attached 0 B f.present g.number s g.near f.session_links view w.epoch 0 epoch now x later own.has.is_at (omega arith) f.server.2 admits) whole
     (on.0 ∙ number) on.2 refl

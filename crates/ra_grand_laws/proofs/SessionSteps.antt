@@ -64,15 +64,15 @@ part_session s o c call kept part = record {
   settings = part.settings;
   pending = part.pending;
   runs = part.runs;
-  lifted = part.lifted;
+  session_links = part.session_links;
   number = part.number;
   present = part.present;
   peer = (call s).peer;
   view =
-      turned 0 B part.present part.number (call s).peer c.dialer.session.peer part.lifted
-      (kept.views 0 B part.present part.number s c.dialer.session.peer part.lifted
-      (subst (λ (p : Peer). View 0 B part.present part.number p c.dialer.session.peer part.lifted) part.server.0
-      (turned 0 A part.number part.present c.dialer.session.peer part.peer part.lifted part.view)));
+      turned 0 B part.present part.number (call s).peer c.dialer.session.peer part.session_links
+      (kept.views 0 B part.present part.number s c.dialer.session.peer part.session_links
+      (subst (λ (p : Peer). View 0 B part.present part.number p c.dialer.session.peer part.session_links) part.server.0
+      (turned 0 A part.number part.present c.dialer.session.peer part.peer part.session_links part.view)));
   server = (refl, kept.number s ∙ part.server.1, kept.runs s part.server.2);
   whole = λ x is. whole_later part.peer (call s).peer x
       (subst (λ (p : Peer). IsLater p (call s).peer) (sym part.server.0) (kept.grows s))

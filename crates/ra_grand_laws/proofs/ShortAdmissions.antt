@@ -215,8 +215,8 @@ admitted_stopped g h draw first bytes place now before s calls new asks is b uns
     known : IsKnown g m.welcome
     known w there =
         let next : next_epoch o ≡ epoch_of o + 1 = next_is o in
-        let counted : length new.focus.lifted ≡ epoch_of o = new.focus.count in
-        let under : g.number ≤ length new.focus.lifted = new.focus.view.mine.there in
+        let counted : length new.focus.session_links ≡ epoch_of o = new.focus.count in
+        let under : g.number ≤ length new.focus.session_links = new.focus.view.mine.there in
         let same : next_epoch o ≡ w.epoch = ap (λ (v : Welcome). v.epoch) (there_is there) in
         inr (omega (arith, next, counted, under, same))
 

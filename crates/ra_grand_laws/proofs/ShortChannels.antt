@@ -128,7 +128,7 @@ piece_between g c w bytes k None x over fits is at held =
     }) held)
 piece_between g c w bytes k (Some seat) x over fits is at held =
     let s : Serving = serving_at g.link w in
-    let own : seat.key ≡ g.owner = own_seat g.owner x.lifted x.present g.link g.link.server.is_over (Some seat) over (subst (λ (o : Option Seat). EndStands g.owner x.lifted x.present g.link g.link.server.is_over o) at x.here.end) in
+    let own : seat.key ≡ g.owner = own_seat g.owner x.session_links x.present g.link g.link.server.is_over (Some seat) over (subst (λ (o : Option Seat). EndStands g.owner x.session_links x.present g.link g.link.server.is_over o) at x.here.end) in
     let same : seat_at g.owner seat.epoch ≡ seat = ap (λ (key : Key). seat_at key seat.epoch) (sym own) in
     subst (λ (v : Seat). HoldsBetween g c s (served_by (turns_for bytes) v bytes w.now s)) same
     (served_between (turns_for bytes) g c w.hub (draw_at g.link w) [] bytes bytes w.now seat.epoch k s
@@ -180,6 +180,6 @@ short_channels draws calls put bytes k n m f w keeps client_number link_number c
       channels = held;
       jobs = jobs;
       end = tt;
-      own = own_seat g.owner x.lifted x.present g.link g.link.server.is_over g.link.server.seat over x.here.end;
+      own = own_seat g.owner x.session_links x.present g.link g.link.server.is_over g.link.server.seat over x.here.end;
     } in
     front_stands g c calls w.now (λ (es : List HubEvent). seats_by es w.hub f.link.server.seat) s (served bytes g.link w) refl jobs (served_so g c w bytes k x over fits bytes_are before)

@@ -38,7 +38,7 @@ pub record Begun (g : Ground) (bytes : List ℕ) : Type 0 where
   pub kept : Option Row
   pub focus : Focus g session kept g.link
   pub follows : Follows bytes g.link.link.to_b
-  pub within : (u : Welcome) (y : Link) → g.link.server.welcome ≡ Some u → u.epoch ≡ g.number → at_number g.lifted g.number ≡ Some y
+  pub within : (u : Welcome) (y : Link) → g.link.server.welcome ≡ Some u → u.epoch ≡ g.number → at_number g.session_links g.number ≡ Some y
       → y.to_a.read ≤ length (u.pause ++ drop u.down g.link.link.to_a.written)
 
 -- a welcome that the link had then, or a later one
@@ -79,9 +79,9 @@ speaks_front kind key out cut None (own, theirs, reason, rest, same) = (own, the
 speaks_front kind key out cut (Some w) (own, theirs, agrees, down, pause) =
     (own, theirs, record { more = cut ++ agrees.more; rest = agrees.rest; same = sym (append_assoc out cut agrees.more) ∙ agrees.same }, down, pause)
 
--- ---- the lifted link
+-- ---- the session's link
 
--- The front of a lifted link that is there, and how much of it counts as read.
+-- The front of a link of the session that is there, and how much of it counts as read.
 record IsFrontOf (g : Ground) (n : ℕ) (x : Link) (text : List ℕ) : Type 0 where
   more : List ℕ
   was : x.to_a.written ≡ text ++ more
@@ -97,13 +97,13 @@ front_of g n x text more was fits = by (same_or_not n g.number)
     by (inl here) = record { more = more; was = was; read = x.to_a.read; fits = fits here; same = λ _. refl; none = λ is. is }
     by (inr apart) = record { more = more; was = was; read = 0; fits = omega arith; same = λ here. absurd (apart here); none = λ _. refl }
 
-reads_front : (number : ℕ) (old lifted : List Link) (n : ℕ) (x y : Link) → ReadsSame number old lifted → at_number lifted n ≡ Some x → (n ≡ number → y.to_a.read ≡ x.to_a.read)
-    → ReadsSame number old (put_number lifted n y)
-reads_front number old lifted n x y reads at same z is = by (put_cases lifted n number y z is)
+reads_front : (number : ℕ) (old session_links : List Link) (n : ℕ) (x y : Link) → ReadsSame number old session_links → at_number session_links n ≡ Some x → (n ≡ number → y.to_a.read ≡ x.to_a.read)
+    → ReadsSame number old (put_number session_links n y)
+reads_front number old session_links n x y reads at same z is = by (put_cases session_links n number y z is)
   where
-    by : ((number ≡ n) × (y ≡ z)) ⊎ ((number ≡ n → ⊥) × (at_number lifted number ≡ Some z)) → (k : Link) × (at_number old number ≡ Some k) × (k.to_a.read ≡ z.to_a.read)
+    by : ((number ≡ n) × (y ≡ z)) ⊎ ((number ≡ n → ⊥) × (at_number session_links number ≡ Some z)) → (k : Link) × (at_number old number ≡ Some k) × (k.to_a.read ≡ z.to_a.read)
     by (inl q) =
-        let r = reads x (subst (λ (i : ℕ). at_number lifted i ≡ Some x) (sym q.0) at) in
+        let r = reads x (subst (λ (i : ℕ). at_number session_links i ≡ Some x) (sym q.0) at) in
         (r.0, r.1, r.2 ∙ sym (same (sym q.0)) ∙ ap (λ (v : Link). v.to_a.read) q.1)
     by (inr q) = reads z q.1
 
@@ -111,38 +111,38 @@ whole_front : (o : Peer) (x y : Link) (i n : ℕ) → y.is_cut ≡ x.is_cut → 
 whole_front o x y i n cut (inl same) whole kept up = subst (λ (t : List ℕ). IsJoining 0 (messages o.endpoint) o.endpoint.received t) same (whole (sym cut ∙ kept) up)
 whole_front o x y i n cut (inr left) whole kept up = absurd (true≢false (sym up ∙ left.off))
 
--- the lifted link of the welcome has become this front of it
+-- the session's link of the welcome has become this front of it
 focus_front : (g : Ground) (s : Option Session) (o : Option Row) (l after : GrandLink) (f : Focus g s o l) (w : Welcome) (x : Link) (text : List ℕ) (front : IsFrontOf g w.epoch x text)
-    → l.server.welcome ≡ Some w → after.server.welcome ≡ l.server.welcome → at_number f.lifted w.epoch ≡ Some x → (x.to_a.written ≡ text) ⊎ HasLeft f.present w.epoch f.peer
-    → LinkKeeps g.owner (g.draws g.place) (put_number f.lifted w.epoch (with_front text front.read x)) f.present after → StaysBelow g.link after → Focus g s o after
+    → l.server.welcome ≡ Some w → after.server.welcome ≡ l.server.welcome → at_number f.session_links w.epoch ≡ Some x → (x.to_a.written ≡ text) ⊎ HasLeft f.present w.epoch f.peer
+    → LinkKeeps g.owner (g.draws g.place) (put_number f.session_links w.epoch (with_front text front.read x)) f.present after → StaysBelow g.link after → Focus g s o after
 focus_front g s o l after f w x text front there same at may here stays =
     let y : Link = with_front text front.read x in
     let fits : front.read ≤ length text = front.fits in
     let size : length x.to_a.written ≡ length text + length front.more = ap (λ (t : List ℕ). length t) front.was ∙ length-append text front.more in
     record {
-      lifted = put_number f.lifted w.epoch y;
+      session_links = put_number f.session_links w.epoch y;
       present = f.present;
       peer = f.peer;
-      view = turned 0 B f.present g.number f.peer g.near (put_number f.lifted w.epoch y)
-          (view_front f.present g.number f.peer g.near f.lifted w.epoch x text front.more front.read (turned 0 A g.number f.present g.near f.peer f.lifted f.view) at front.was fits
+      view = turned 0 B f.present g.number f.peer g.near (put_number f.session_links w.epoch y)
+          (view_front f.present g.number f.peer g.near f.session_links w.epoch x text front.more front.read (turned 0 A g.number f.present g.near f.peer f.session_links f.view) at front.was fits
           (omega (arith, fits, size)) front.same front.none may);
       server = f.server;
-      whole = λ z is. whole_at z (put_cases f.lifted w.epoch f.present y z is);
-      count = length-put_number f.lifted w.epoch y ∙ f.count;
+      whole = λ z is. whole_at z (put_cases f.session_links w.epoch f.present y z is);
+      count = length-put_number f.session_links w.epoch y ∙ f.count;
       both = f.both;
       here = here;
       elsewhere = λ n k ne is.
-          link_elsewhere g.owner (g.draws n) f.lifted f.present f.present w.epoch y k (λ u has even. f.apart n k u w ne is has there (sym even)) (λ u has even. refl) (f.elsewhere n k ne is);
+          link_elsewhere g.owner (g.draws n) f.session_links f.present f.present w.epoch y k (λ u has even. f.apart n k u w ne is has there (sym even)) (λ u has even. refl) (f.elsewhere n k ne is);
       apart = λ n k v u ne is one other alike. f.apart n k v u ne is one (sym same ∙ other) alike;
       later = λ u behind is. f.later u behind (sym same ∙ is);
       stays = stays;
-      reads = reads_front g.number g.lifted f.lifted w.epoch x y f.reads at front.same;
+      reads = reads_front g.number g.session_links f.session_links w.epoch x y f.reads at front.same;
     }
   where
-    whole_at : (z : Link) → ((f.present ≡ w.epoch) × (with_front text front.read x ≡ z)) ⊎ ((f.present ≡ w.epoch → ⊥) × (at_number f.lifted f.present ≡ Some z)) → WritesWhole f.peer z
+    whole_at : (z : Link) → ((f.present ≡ w.epoch) × (with_front text front.read x ≡ z)) ⊎ ((f.present ≡ w.epoch → ⊥) × (at_number f.session_links f.present ≡ Some z)) → WritesWhole f.peer z
     whole_at z (inl q) =
         subst (λ (k : Link). WritesWhole f.peer k) q.1
-        (whole_front f.peer x (with_front text front.read x) f.present w.epoch refl may (f.whole x (subst (λ (i : ℕ). at_number f.lifted i ≡ Some x) (sym q.0) at)))
+        (whole_front f.peer x (with_front text front.read x) f.present w.epoch refl may (f.whole x (subst (λ (i : ℕ). at_number f.session_links i ≡ Some x) (sym q.0) at)))
     whole_at z (inr q) = f.whole z q.1
 
 -- ---- the link
@@ -185,8 +185,8 @@ cond_none : (b : Bool) (t : List ℕ) → t ≡ [] → cond b [] t ≡ []
 cond_none true t none = refl
 cond_none false t none = none
 
-has_at : (owner : Key) (d : Drawn) (lifted : List Link) (l : GrandLink) (o : Option Welcome) (w : Welcome) → o ≡ Some w → HasWelcome owner d lifted l o → IsWelcome owner d lifted l w
-has_at owner d lifted l o w is has = subst (λ (q : Option Welcome). HasWelcome owner d lifted l q) is has
+has_at : (owner : Key) (d : Drawn) (session_links : List Link) (l : GrandLink) (o : Option Welcome) (w : Welcome) → o ≡ Some w → HasWelcome owner d session_links l o → IsWelcome owner d session_links l w
+has_at owner d session_links l o w is has = subst (λ (q : Option Welcome). HasWelcome owner d session_links l q) is has
 
 -- the part behind the handshake that is there
 abbrev part_of : Welcome → GrandLink → List ℕ
@@ -246,23 +246,23 @@ part_may g draw bytes v u x f w k there is (inr (inr off)) =
 -- ---- what holds of it
 
 keeps_front : (g : Ground) (draw : ℕ → List ℕ) (bytes : List ℕ) (v u : Serving) (x : Fronts g v u) (b : Begun g bytes)
-    → (f : Focus g (v.hub.session g.owner) (row v.hub g.owner) (link_after bytes true v g.link draw)) (lifted : List Link)
-    → HasWelcome g.owner (g.draws g.place) lifted (link_after bytes true u g.link draw) u.welcome
-    → LinkKeeps g.owner (g.draws g.place) lifted f.present (link_after bytes true u g.link draw)
-keeps_front g draw bytes v u x b f lifted has =
+    → (f : Focus g (v.hub.session g.owner) (row v.hub g.owner) (link_after bytes true v g.link draw)) (session_links : List Link)
+    → HasWelcome g.owner (g.draws g.place) session_links (link_after bytes true u g.link draw) u.welcome
+    → LinkKeeps g.owner (g.draws g.place) session_links f.present (link_after bytes true u g.link draw)
+keeps_front g draw bytes v u x b f session_links has =
     let d : Drawn = g.draws g.place in
     let after : GrandLink = link_after bytes true u g.link draw in
     let speaks : Speaks g.owner.kind d.key u.welcome u.out =
     speaks_front g.owner.kind d.key u.out x.cut u.welcome
     (subst (λ (o : Option Welcome). Speaks g.owner.kind d.key o (u.out ++ x.cut)) (sym x.welcome)
     (subst (λ (t : List ℕ). Speaks g.owner.kind d.key v.welcome t) x.was f.here.speaks)) in
-    keeps_put g.owner d b.focus.lifted lifted b.focus.present f.present g.link after bytes x.front b.focus.here b.follows (put_first bytes true u g.link draw x.front x.out) speaks has
-    (over_stands g.owner lifted f.present after true u.seat refl x.seat)
+    keeps_put g.owner d b.focus.session_links session_links b.focus.present f.present g.link after bytes x.front b.focus.here b.follows (put_first bytes true u g.link draw x.front x.out) speaks has
+    (over_stands g.owner session_links f.present after true u.seat refl x.seat)
 
 below_front : (g : Ground) (draw : ℕ → List ℕ) (bytes : List ℕ) (v u : Serving) (x : Fronts g v u) (b : Begun g bytes)
     → Focus g (v.hub.session g.owner) (row v.hub g.owner) (link_after bytes true v g.link draw) → StaysBelow g.link (link_after bytes true u g.link draw)
 below_front g draw bytes v u x b f =
-    below_put g.owner (g.draws g.place) b.focus.lifted b.focus.present g.link g.link (link_after bytes true u g.link draw) bytes x.front b.focus.here
+    below_put g.owner (g.draws g.place) b.focus.session_links b.focus.present g.link g.link (link_after bytes true u g.link draw) bytes x.front b.focus.here
     (put_first bytes true u g.link draw x.front x.out) (λ w is. x.welcome ∙ f.stays.welcome w is) (below_itself g.link)
 
 focus_some : (g : Ground) (draw : ℕ → List ℕ) (bytes : List ℕ) (v u : Serving) (x : Fronts g v u) (b : Begun g bytes)
@@ -270,8 +270,8 @@ focus_some : (g : Ground) (draw : ℕ → List ℕ) (bytes : List ℕ) (v u : Se
     → (g.link.server.welcome ≡ Some w) ⊎ (g.number < w.epoch) → MayCut g v
     → Focus g (v.hub.session g.owner) (row v.hub g.owner) (link_after bytes true u g.link draw)
 focus_some g draw bytes v u x b f w there known may =
-    focus_front g (v.hub.session g.owner) (row v.hub g.owner) l after f w lift text front there x.welcome has.is_at (part_may g draw bytes v u x f w lift there has.carries.down may)
-    (keeps_front g draw bytes v u x b f lifted (subst (λ (o : Option Welcome). HasWelcome g.owner d lifted after o) (sym (x.welcome ∙ there)) now))
+    focus_front g (v.hub.session g.owner) (row v.hub g.owner) l after f w session_link text front there x.welcome has.is_at (part_may g draw bytes v u x f w session_link there has.carries.down may)
+    (keeps_front g draw bytes v u x b f session_links (subst (λ (o : Option Welcome). HasWelcome g.owner d session_links after o) (sym (x.welcome ∙ there)) now))
     (below_front g draw bytes v u x b f)
   where
     d : Drawn
@@ -283,41 +283,41 @@ focus_some g draw bytes v u x b f w there known may =
     after : GrandLink
     after = link_after bytes true u g.link draw
 
-    has : IsWelcome g.owner d f.lifted l w
-    has = has_at g.owner d f.lifted l v.welcome w there f.here.welcome
+    has : IsWelcome g.owner d f.session_links l w
+    has = has_at g.owner d f.session_links l v.welcome w there f.here.welcome
 
-    lift : Link
-    lift = has.lift
+    session_link : Link
+    session_link = has.session_link
 
     text : List ℕ
     text = part_of w after
 
-    read_within : w.epoch ≡ g.number → (g.link.server.welcome ≡ Some w) ⊎ (g.number < w.epoch) → lift.to_a.read ≤ length text
+    read_within : w.epoch ≡ g.number → (g.link.server.welcome ≡ Some w) ⊎ (g.number < w.epoch) → session_link.to_a.read ≤ length text
     read_within here (inr less) = absurd (omega (arith, here, less))
     read_within here (inl old) =
-        let r = f.reads lift (subst (λ (i : ℕ). at_number f.lifted i ≡ Some lift) here has.is_at) in
+        let r = f.reads session_link (subst (λ (i : ℕ). at_number f.session_links i ≡ Some session_link) here has.is_at) in
         let within : r.0.to_a.read ≤ length (w.pause ++ drop w.down g.link.link.to_a.written) = b.within w r.0 old here r.1 in
-        part_within w g.link.link.to_a.written after (cond g.link.link.is_cut [] x.front) lift.to_a.read (written_old g draw bytes v u x)
+        part_within w g.link.link.to_a.written after (cond g.link.link.is_cut [] x.front) session_link.to_a.read (written_old g draw bytes v u x)
         (subst (λ (i : ℕ). i ≤ length (w.pause ++ drop w.down g.link.link.to_a.written)) r.2 within)
 
-    front : IsFrontOf g w.epoch lift text
+    front : IsFrontOf g w.epoch session_link text
     front =
-        let more = part_more w l after (cond g.link.link.is_cut [] x.cut) lift has.carries.down (written_more g draw bytes v u x) in
-        front_of g w.epoch lift text more.0 more.1 (λ here. read_within here known)
+        let more = part_more w l after (cond g.link.link.is_cut [] x.cut) session_link has.carries.down (written_more g draw bytes v u x) in
+        front_of g w.epoch session_link text more.0 more.1 (λ here. read_within here known)
 
     y : Link
-    y = with_front text front.read lift
+    y = with_front text front.read session_link
 
-    lifted : List Link
-    lifted = put_number f.lifted w.epoch y
+    session_links : List Link
+    session_links = put_number f.session_links w.epoch y
 
-    now : IsWelcome g.owner d lifted after w
+    now : IsWelcome g.owner d session_links after w
     now = record {
       theirs = has.theirs;
       place = has.place;
       there = has.there;
-      lift = y;
-      is_at = number_same f.lifted w.epoch y lift has.is_at;
+      session_link = y;
+      is_at = number_same f.session_links w.epoch y session_link has.is_at;
       carries = record { up = has.carries.up; down = refl; cut = has.carries.cut };
     }
 
@@ -329,9 +329,9 @@ focus_by g draw bytes v u x b f None none known may =
     let d : Drawn = g.draws g.place in
     let l : GrandLink = link_after bytes true v g.link draw in
     let after : GrandLink = link_after bytes true u g.link draw in
-    let has : HasWelcome g.owner d f.lifted l None = subst (λ (o : Option Welcome). HasWelcome g.owner d f.lifted l o) none f.here.welcome in
+    let has : HasWelcome g.owner d f.session_links l None = subst (λ (o : Option Welcome). HasWelcome g.owner d f.session_links l o) none f.here.welcome in
     focus_moved g (v.hub.session g.owner) (row v.hub g.owner) l after f
-    (keeps_front g draw bytes v u x b f f.lifted (subst (λ (o : Option Welcome). HasWelcome g.owner d f.lifted after o) (sym (x.welcome ∙ none)) has))
+    (keeps_front g draw bytes v u x b f f.session_links (subst (λ (o : Option Welcome). HasWelcome g.owner d f.session_links after o) (sym (x.welcome ∙ none)) has))
     (below_front g draw bytes v u x b f) x.welcome
 
 pub front_going : (g : Ground) (h : Hub) (draw : ℕ → List ℕ) (bytes : List ℕ) (v u : Serving) → Fronts g v u → Begun g bytes → Going g h draw bytes true v → IsKnown g v.welcome → MayCut g v

@@ -145,7 +145,7 @@ piece_stopped g w bytes k calls None known x over fits is at =
     }) refl)
 piece_stopped g w bytes k calls (Some seat) known x over fits is at =
     let own : seat.key ≡ g.owner =
-    own_seat g.owner x.lifted x.present g.link g.link.server.is_over (Some seat) over (subst (λ (o : Option Seat). EndStands g.owner x.lifted x.present g.link g.link.server.is_over o) at x.here.end) in
+    own_seat g.owner x.session_links x.present g.link g.link.server.is_over (Some seat) over (subst (λ (o : Option Seat). EndStands g.owner x.session_links x.present g.link g.link.server.is_over o) at x.here.end) in
     let same : seat_at g.owner seat.epoch ≡ seat = ap (λ (key : Key). seat_at key seat.epoch) (sym own) in
     subst (λ (v : Seat). PieceStopped g w bytes calls (served_by (turns_for bytes) v bytes w.now (serving_at g.link w))) same
     (seat_stopped g w bytes k seat.epoch calls x over fits is (at ∙ ap (λ (v : Seat). Some v) (sym same)))

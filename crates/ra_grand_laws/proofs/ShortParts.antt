@@ -76,9 +76,9 @@ begun_at bytes k n m f w is bytes_are =
       focus = x;
       follows = follows_read f.link.link bytes k x.here.up bytes_are;
       within = λ u y there here at.
-          let has : IsWelcome f.client.key (part.draws m) part.lifted f.link u =
-          subst (λ (o : Option Welcome). HasWelcome f.client.key (part.draws m) part.lifted f.link o) there (part.links m f.link is.link).welcome in
-          let same : has.lift ≡ y = there_is (sym has.is_at ∙ ap (λ (i : ℕ). at_number part.lifted i) here ∙ at) in
+          let has : IsWelcome f.client.key (part.draws m) part.session_links f.link u =
+          subst (λ (o : Option Welcome). HasWelcome f.client.key (part.draws m) part.session_links f.link o) there (part.links m f.link is.link).welcome in
+          let same : has.session_link ≡ y = there_is (sym has.is_at ∙ ap (λ (i : ℕ). at_number part.session_links i) here ∙ at) in
           let text : y.to_a.written ≡ u.pause ++ drop u.down f.link.link.to_a.written = ap (λ (l : Link). l.to_a.written) (sym same) ∙ has.carries.down in
           subst (λ (t : List ℕ). y.to_a.read ≤ length t) text (part.view.reads.inside part.number y at);
     }

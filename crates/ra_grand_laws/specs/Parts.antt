@@ -46,18 +46,18 @@ pub record Carries (w : Welcome) (l x : Link) : Type 0 where
   pub cut : x.is_cut ≡ l.is_cut
 
 -- a welcome stands behind all that the client wrote of its handshake, and the link of its epoch is this one
-pub record IsWelcome (owner : Key) (d : Drawn) (lifted : List Link) (l : GrandLink) (w : Welcome) : Type 0 where
+pub record IsWelcome (owner : Key) (d : Drawn) (session_links : List Link) (l : GrandLink) (w : Welcome) : Type 0 where
   pub theirs : List ℕ
   pub place : w.up ≡ length (client_text owner d.reconnection d.key d.own theirs)
   pub there : w.up ≤ length l.link.to_b.written
-  pub lift : Link
-  pub is_at : at_number lifted w.epoch ≡ Some lift
-  pub carries : Carries w l.link lift
+  pub session_link : Link
+  pub is_at : at_number session_links w.epoch ≡ Some session_link
+  pub carries : Carries w l.link session_link
 
 abbrev pub HasWelcome : Key → Drawn → List Link → GrandLink → Option Welcome → Type 0
-HasWelcome owner d lifted l None =
+HasWelcome owner d session_links l None =
     (theirs rest : List ℕ) × (l.link.to_b.written ++ rest ≡ client_text owner d.reconnection d.key d.own theirs)
-HasWelcome owner d lifted l (Some w) = IsWelcome owner d lifted l w
+HasWelcome owner d session_links l (Some w) = IsWelcome owner d session_links l w
 
 -- an opening that waits for more
 abbrev pub IsWaiting : OpeningStage → Type 0
@@ -79,20 +79,20 @@ pub record IsOpening (end : ServerEnd) : Type 0 where
   pub drawn : end.drawn ≡ first_draws (opening_of draw end).drawn (λ n. draw)
 
 -- One that has a seat has the seat of its welcome. On the session's present link all that was read behind the welcome is the session's.
-pub record IsSeated (owner : Key) (lifted : List Link) (present : ℕ) (l : GrandLink) (seat : Seat) : Type 0 where
+pub record IsSeated (owner : Key) (session_links : List Link) (present : ℕ) (l : GrandLink) (seat : Seat) : Type 0 where
   pub welcome : Welcome
   pub is_there : l.server.welcome ≡ Some welcome
   pub key : seat.key ≡ owner
   pub number : seat.epoch ≡ welcome.epoch
   pub said : welcome.down ≤ length l.server.out
-  pub read : seat.epoch ≡ present → (x : Link) → at_number lifted present ≡ Some x → x.to_b.read + welcome.up ≡ l.link.to_b.read
+  pub read : seat.epoch ≡ present → (x : Link) → at_number session_links present ≡ Some x → x.to_b.read + welcome.up ≡ l.link.to_b.read
 
 abbrev pub EndStands : Key → List Link → ℕ → GrandLink → Bool → Option Seat → Type 0
-EndStands owner lifted present l true seat = seat ≡ None
-EndStands owner lifted present l false None = IsOpening l.server
-EndStands owner lifted present l false (Some seat) = IsSeated owner lifted present l seat
+EndStands owner session_links present l true seat = seat ≡ None
+EndStands owner session_links present l false None = IsOpening l.server
+EndStands owner session_links present l false (Some seat) = IsSeated owner session_links present l seat
 
-pub record LinkKeeps (owner : Key) (d : Drawn) (lifted : List Link) (present : ℕ) (l : GrandLink) : Type 0 where
+pub record LinkKeeps (owner : Key) (d : Drawn) (session_links : List Link) (present : ℕ) (l : GrandLink) : Type 0 where
   pub key_len : length d.key ≡ 16
   pub key_bytes : All (λ b. b < 256) d.key
   pub head : l.server.head ≡ request_head (settings_for owner) d.reconnection d.key
@@ -103,8 +103,8 @@ pub record LinkKeeps (owner : Key) (d : Drawn) (lifted : List Link) (present : �
   pub put : Begins l.server.out l.link.to_a.written
   pub put_all : l.link.is_cut ≡ false → l.link.to_a.written ≡ l.server.out
   pub speaks : Speaks owner.kind d.key l.server.welcome l.server.out
-  pub welcome : HasWelcome owner d lifted l l.server.welcome
-  pub end : EndStands owner lifted present l l.server.is_over l.server.seat
+  pub welcome : HasWelcome owner d session_links l l.server.welcome
+  pub end : EndStands owner session_links present l l.server.is_over l.server.seat
 
 -- ---- the client
 
@@ -117,7 +117,7 @@ pub record Shakes (owner : Key) (d : Drawn) (s : ShakingState) (l : GrandLink) :
   pub put_all : l.link.is_cut ≡ false → l.link.to_b.written ≡ text
 
 -- The present link of an attached client is the one with this number. All that it read behind the welcome is its session's.
-pub record IsAttached (c : Client) (lifted : List Link) (number : ℕ) (l : GrandLink) : Type 0 where
+pub record IsAttached (c : Client) (session_links : List Link) (number : ℕ) (l : GrandLink) : Type 0 where
   pub welcome : Welcome
   pub is_there : l.server.welcome ≡ Some welcome
   pub is_number : welcome.epoch ≡ number
@@ -126,7 +126,7 @@ pub record IsAttached (c : Client) (lifted : List Link) (number : ℕ) (l : Gran
   pub behind : welcome.down ≤ l.link.to_a.read
   -- nothing is left to be put on the link
   pub quiet : shown c.dialer.session.peer.endpoint ≡ []
-  pub read : c.dialer.session.cause ≡ None → (x : Link) → at_number lifted number ≡ Some x
+  pub read : c.dialer.session.cause ≡ None → (x : Link) → at_number session_links number ≡ Some x
       → x.to_a.read + welcome.down ≡ length welcome.pause + l.link.to_a.read
 
 -- what holds of the last link, which is there
@@ -135,11 +135,11 @@ HasLast links P = (n : ℕ) × (l : GrandLink) × (length links ≡ suc n) × (s
 
 -- It was attached on some of its first links, the last time on the one with this number. One that shakes hands does so on a later link.
 abbrev pub StageKeeps : Client → (ℕ → Drawn) → List Link → (number attached : ℕ) → Stage → Type 0
-StageKeeps c draws lifted number attached (stages.Resting until) = attached ≤ length c.links
-StageKeeps c draws lifted number attached (stages.Calling since) = attached ≤ length c.links
-StageKeeps c draws lifted number attached (stages.Shaking since s) = (attached < length c.links) × HasLast c.links (λ n l. Shakes c.key (draws n) s l)
-StageKeeps c draws lifted number attached stages.Attached = (attached ≡ length c.links) × HasLast c.links (λ n l. IsAttached c lifted number l)
-StageKeeps c draws lifted number attached (stages.Over end) = attached ≤ length c.links
+StageKeeps c draws session_links number attached (stages.Resting until) = attached ≤ length c.links
+StageKeeps c draws session_links number attached (stages.Calling since) = attached ≤ length c.links
+StageKeeps c draws session_links number attached (stages.Shaking since s) = (attached < length c.links) × HasLast c.links (λ n l. Shakes c.key (draws n) s l)
+StageKeeps c draws session_links number attached stages.Attached = (attached ≡ length c.links) × HasLast c.links (λ n l. IsAttached c session_links number l)
+StageKeeps c draws session_links number attached (stages.Over end) = attached ≤ length c.links
 
 -- ---- both ends
 
@@ -160,23 +160,23 @@ pub record PartHolds (session : Option Session) (kept : Option Row) (c : Client)
   pub pending : c.dialer.pending ≡ []
   pub runs : IsRunning c.dialer.session
   -- the links of the session, their numbers at both ends, and the peer at the server
-  pub lifted : List Link
+  pub session_links : List Link
   pub number : ℕ
   pub present : ℕ
   pub peer : Peer
-  pub view : View 0 A number present c.dialer.session.peer peer lifted
+  pub view : View 0 A number present c.dialer.session.peer peer session_links
   pub server : IsServer session peer present
-  pub whole : (x : Link) → at_number lifted present ≡ Some x → WritesWhole peer x
-  pub count : length lifted ≡ epoch_of kept
+  pub whole : (x : Link) → at_number session_links present ≡ Some x → WritesWhole peer x
+  pub count : length session_links ≡ epoch_of kept
   pub both : is_some session ≡ is_some kept
   -- the client's links
   pub draws : ℕ → Drawn
-  pub links : (n : ℕ) (l : GrandLink) → slice_get c.links n ≡ Some l → LinkKeeps c.key (draws n) lifted present l
+  pub links : (n : ℕ) (l : GrandLink) → slice_get c.links n ≡ Some l → LinkKeeps c.key (draws n) session_links present l
   pub apart : (n m : ℕ) (k l : GrandLink) (v w : Welcome) → slice_get c.links n ≡ Some k → slice_get c.links m ≡ Some l
       → k.server.welcome ≡ Some v → l.server.welcome ≡ Some w → v.epoch ≡ w.epoch → n ≡ m
   pub attached : ℕ
   pub later : (n : ℕ) (l : GrandLink) (w : Welcome) → slice_get c.links n ≡ Some l → attached ≤ n → l.server.welcome ≡ Some w → number < w.epoch
-  pub stage : StageKeeps c draws lifted number attached c.dialer.stage
+  pub stage : StageKeeps c draws session_links number attached c.dialer.stage
 
 -- ---- a world
 
