@@ -31,7 +31,7 @@ use Rattle.ra_grand.specs.GrandClients.{GrandLink}
 use Rattle.ra_grand.specs.Grands.{Grand}
 use Rattle.ra_grand.specs.GrandSweeps.{swept_hub}
 use Rattle.ra_grand.specs.Marks.{Mark, whole, short, unticked}
-use Rattle.ra_grand.specs.ServedLinks.{draw_at, serving_at, served, came_by, left, settled}
+use Rattle.ra_grand.specs.ServedLinks.{draw_at, serving_at, served, came_by, left}
 use Rattle.ra_grand.specs.SetUps.{grounds}
 use Rattle.ra_grand_laws.specs.SaidPackets.{late_of}
 use Rattle.ra_grand_laws.proofs.SessionPackets.{HasSaid, said_attach, said_lose, said_end, said_turn, said_swept}

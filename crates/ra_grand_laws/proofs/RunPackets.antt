@@ -1,6 +1,5 @@
 -- The packets that the session of a key has said, but for Initialize, over a run.
 use Rattle.std.proofs.Common.{◌≡◌, ℕ, Bool, true, false, cond, Option, Some, None, List, [], ◌∷◌, ◌++◌, refl, ap, sym, ◌∙◌, subst, append-nil, append_assoc}
-use Rattle.std.specs.Prelude.{if◌then◌else◌}
 use Rattle.ra_base.specs.declared.key.Key.{Key}
 use Rattle.ra_ipc.specs.Messages.{Message}
 use Rattle.ra_model.specs.Links.{at_number}
@@ -10,11 +9,11 @@ use Rattle.ra_registry.proofs.SameKeys.{same_key_is, same_key_other_way}
 use Rattle.ra_session.specs.SessionCalls.{say_body}
 use Rattle.ra_session.specs.SessionRefusals.{Refusal as SessionRefusal}
 use Rattle.ra_session.specs.Sessions.{Session}
-use Rattle.ra_hub.specs.Hubs.{Hub, row, at_key, missed}
+use Rattle.ra_hub.specs.Hubs.{Hub, row, missed}
 use Rattle.ra_hub.specs.Jobs.{SeenJob}
 use Rattle.ra_script.specs.declared.grand_line.GrandEvent.{GrandEvent}
 use Rattle.ra_script.specs.declared.grand_line.GrandEvent.TheVariants as events
-use Rattle.ra_grand.specs.GrandClients.{Client, dialled, linked}
+use Rattle.ra_grand.specs.GrandClients.{Client, linked}
 use Rattle.ra_grand.specs.GrandRefusals.{Refusal, refusal}
 use Rattle.ra_grand.specs.GrandRuns.{bytes_up, with_place, links, happens, unless as kept_unless, after, run}
 use Rattle.ra_grand.specs.Grands.{Grand, Found, with_client, find_link, on_link, new_grand}

@@ -1,5 +1,5 @@
 -- What the calls of a session add to the packets that it said, where no request of its own waits.
-use Rattle.std.proofs.Common.{◌≡◌, ℕ, Bool, true, false, cond, ◌&&◌, Option, Some, None, Result, Ok, Err, List, [], ◌∷◌, ◌++◌, refl, ap, sym, ◌∙◌, subst, append-nil, append_assoc}
+use Rattle.std.proofs.Common.{◌≡◌, ℕ, Bool, true, false, cond, ◌&&◌, Option, Some, None, Result, Ok, Err, List, [], ◌∷◌, ◌++◌, refl, ap, sym, ◌∙◌, subst, append-nil}
 use Rattle.std.specs.Prelude.{filter_map, nat_le}
 use Rattle.std.specs.Option.{is_some}
 use Rattle.std.proofs.lemmas.Bool.{cond_both}
@@ -20,7 +20,7 @@ use Rattle.ra_ipc.specs.ChannelServers.{Server, Active, waiting_call, handed_cal
 use Rattle.ra_ipc.specs.Deliveries.{released_by}
 use Rattle.ra_ipc.specs.Messages.{Message, Reply, promise, promise_cancel, event_listen, event_dispose, initialize, response, event_fire, is_request}
 use Rattle.ra_ipc.specs.ReadMessage.{message_at, context_at}
-use Rattle.ra_session.specs.Hearing.{Hearing, Heard, spoils, hears, heard_request, heard_other, heard_packet, heard_reading, heard_context, heard_host, heard_management, heard, is_context}
+use Rattle.ra_session.specs.Hearing.{Heard, spoils, hears, heard_request, heard_other, heard_reading, heard_context, heard_host, heard_management, heard, is_context}
 use Rattle.ra_session.specs.SessionCalls.{Firing, fired_by, answer_packets, attach, feed_session, take_out, answer, say_body, tick_session, lose_session, end_session}
 use Rattle.ra_session.specs.SessionRefusals.{tick_refusal}
 use Rattle.ra_session.specs.Sessions.{Session, is_management}

@@ -3,30 +3,28 @@ use Rattle.std.proofs.Common.{◌≡◌, ℕ, suc, ◌+◌, ◌≤◌, true, fal
 use Rattle.std.specs.Prelude.{slice_get}
 use Rattle.std.proofs.lemmas.List.{length-append, take-append-le, take-append-drop, drop_at}
 use Rattle.ra_base.specs.declared.event.Side.TheVariants.{B}
-use Rattle.ra_base.specs.declared.key.Key.{Key}
 use Rattle.ra_base.specs.declared.key.Seat.{Seat}
 use Rattle.ra_model.specs.Links.{Link, at_number, readable}
 use Rattle.ra_hub.specs.Hubs.{Hub, row}
 use Rattle.ra_link.specs.HubEvents.{HubEvent, events_bytes, events_done}
 use Rattle.ra_link.specs.LinkRuns.{Serving, Welcome, hub_left}
-use Rattle.ra_grand.specs.Fits.{IsPart, MarkFits}
+use Rattle.ra_grand.specs.Fits.{IsPart}
 use Rattle.ra_grand.specs.GrandClients.{GrandLink}
 use Rattle.ra_grand.specs.Grands.{Grand, Found, with_link}
-use Rattle.ra_grand.specs.Marks.{Mark, whole, short, unticked}
+use Rattle.ra_grand.specs.Marks.{short}
 use Rattle.ra_grand.specs.Reached.{Begins}
 use Rattle.ra_grand.specs.ServedLinks.{draw_at, serving_at, served, came, left, piece_came}
 use Rattle.ra_grand_laws.specs.Parts.{HasWelcome, IsWelcome, WorldKeeps}
 use Rattle.ra_grand_laws.proofs.Lists.{there_is}
 use Rattle.ra_grand_laws.proofs.ServedFocus.{Ground, Focus}
-use Rattle.ra_grand_laws.proofs.ServedParts.{IsFound, part_at, ground_at, focus_at, changes_by, piece_changes}
+use Rattle.ra_grand_laws.proofs.ServedParts.{IsFound, part_at, ground_at, focus_at, changes_by}
 use Rattle.ra_grand_laws.proofs.ServedRuns.{link_after}
 use Rattle.ra_grand_laws.proofs.ServedTexts.{follows_read}
 use Rattle.ra_grand_laws.proofs.ShortAdmissions.{Stopped}
 use Rattle.ra_grand_laws.proofs.ShortLinks.{Begun, Fronts, front_going}
 use Rattle.ra_grand_laws.proofs.ShortOpenings.{served_stopped}
 use Rattle.ra_grand_laws.proofs.ShortRuns.{IsSpoiled}
-use Rattle.ra_grand_laws.proofs.WorldLinks.{IsHere, StandsAt, stands_at}
-use Rattle.ra_grand_laws.proofs.WorldSteps.{Changes, world_changes}
+use Rattle.ra_grand_laws.proofs.WorldSteps.{Changes}
 
 -- ---- what was put out
 
@@ -105,29 +103,3 @@ short_changes draws calls put bytes k n m f w keeps client_number link_number cl
     served_stopped g w bytes k calls (part_at n m f w is).kind (focus_at n m f w is) over fits bytes_are unspoiled part.calls_made in
     changes_by bytes true v n m f w is
     (front_going g w.hub (draw_at f.link w) bytes (left w.now x.at) v (fronts_of g w bytes draws calls put x part) (begun_at bytes k n m f w is bytes_are) x.stop.going x.known x.stop.may)
-
--- ---- a piece of any mark
-
-unticked_piece : (keys : List Key) (bytes : List ℕ) (f : Found) (w : Grand) → WorldKeeps (piece_came whole bytes f w) → WorldKeeps (piece_came (unticked keys) bytes f w)
-unfolding piece_came
-unticked_piece keys bytes f w kept = kept
-
-pub keeps_piece_fits : (mark : Mark) (k : ℕ) (w : Grand) → WorldKeeps w → (f : Found) → IsHere f w → f.link.server.is_over ≡ false → k ≤ length (readable B f.link.link)
-    → MarkFits mark (serving_at f.link w) (served (take k (readable B f.link.link)) f.link w) → (IsSpoiled (served (take k (readable B f.link.link)) f.link w) → ⊥)
-    → WorldKeeps (piece_came mark (take k (readable B f.link.link)) f w)
-keeps_piece_fits mark k w keeps f here over fits part unspoiled = by (stands_at f w here) mark part
-  where
-    bytes : List ℕ
-    bytes = take k (readable B f.link.link)
-
-    all : (n m : ℕ) → StandsAt f w n m → WorldKeeps (piece_came whole bytes f w)
-    all n m at =
-        world_changes n f.client _ w (piece_came whole bytes f w) keeps
-        (piece_changes bytes k n m f w keeps at.client_number at.link_number at.client at.link over fits refl)
-
-    by : (n m : ℕ) × StandsAt f w n m → (a : Mark) → MarkFits a (serving_at f.link w) (served bytes f.link w) → WorldKeeps (piece_came a bytes f w)
-    by (n, m, at) whole so = all n m at
-    by (n, m, at) (short draws calls put) so =
-        world_changes n f.client _ w (piece_came (short draws calls put) bytes f w) keeps
-        (short_changes draws calls put bytes k n m f w keeps at.client_number at.link_number at.client at.link over fits refl so unspoiled)
-    by (n, m, at) (unticked keys) so = unticked_piece keys bytes f w (all n m at)

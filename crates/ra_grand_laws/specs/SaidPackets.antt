@@ -6,7 +6,7 @@ use Rattle.std.specs.Option.{is_some}
 use Rattle.ra_base.specs.declared.key.Key.{Key}
 use Rattle.ra_model.specs.Links.{at_number}
 use Rattle.ra_ipc.specs.ChannelServers.{timeout_answers}
-use Rattle.ra_ipc.specs.Messages.{Message, Reply, promise, promise_cancel, event_listen, event_dispose, initialize, response, event_fire}
+use Rattle.ra_ipc.specs.Messages.{Message, promise, promise_cancel, event_listen, event_dispose, initialize, response, event_fire}
 use Rattle.ra_registry.specs.Rows.{same_key}
 use Rattle.ra_session.specs.SessionCalls.{answer_packets}
 use Rattle.ra_session.specs.SessionRefusals.{tick_refusal, Refusal as SessionRefusal}
