@@ -71,8 +71,16 @@ const SCRIPTS: [(&[u8], &[u8], u8); 12] = [
         5,
     ),
     // a link that is not there, and a client that is not there
-    (b"client management t1\ndown 1 *\n", b"client 1\nevent 2: NoSuchLink\n", 5),
-    (b"client management t1\ncall 2 tools echo 00\n", b"client 1\nevent 2: NoSuchClient\n", 5),
+    (
+        b"client management t1\ndown 1 *\n",
+        b"client 1\nevent 2: NoSuchLink\n",
+        5,
+    ),
+    (
+        b"client management t1\ncall 2 tools echo 00\n",
+        b"client 1\nevent 2: NoSuchClient\n",
+        5,
+    ),
     // a client that finds no link rests, and is stopped
     (
         b"sweep\nat 5\nclient host t2\nstep 1\nat 10\nnolink 1\nstep 1\nstop 1\nstep 1\n",
