@@ -4,8 +4,6 @@
 #![tactic(auto)]
 
 pub mod app;
-#[cfg(test)]
-mod tests;
 pub mod tools;
 
 pub use app::{App, Done, Shout, too_large};

@@ -11,8 +11,6 @@ pub mod kind;
 pub mod memory;
 pub mod message;
 pub mod moment;
-#[cfg(test)]
-mod tests;
 pub mod token;
 
 pub use event::{Count, Event, Side};

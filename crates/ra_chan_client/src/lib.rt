@@ -9,8 +9,6 @@ mod fault;
 mod hearing;
 mod ids;
 mod requests;
-#[cfg(test)]
-mod tests;
 mod text;
 mod waiting;
 

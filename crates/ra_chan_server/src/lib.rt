@@ -14,8 +14,6 @@ mod request;
 mod requests;
 mod server;
 mod table;
-#[cfg(test)]
-mod tests;
 mod unknown;
 mod waiting;
 

@@ -18,6 +18,3 @@ mod values;
 
 pub use dialer::Dialer;
 pub use values::{DialAct, DialEnd, DialEvent, DialSettings};
-
-#[cfg(test)]
-mod tests;

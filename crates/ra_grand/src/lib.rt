@@ -33,6 +33,3 @@ pub use applying::run_grand;
 pub use effect::GrandEffect;
 pub use fault::{GrandFault, GrandRunFault};
 pub use world::GrandWorld;
-
-#[cfg(test)]
-mod tests;

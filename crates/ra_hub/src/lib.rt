@@ -12,8 +12,6 @@ mod rows;
 mod sessions;
 mod starting;
 mod sweeping;
-#[cfg(test)]
-mod tests;
 
 pub use fault::{HubFault, StartFault};
 pub use hub::{Hub, Swept};

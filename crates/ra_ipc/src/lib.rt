@@ -10,8 +10,6 @@ mod fault;
 mod header;
 pub mod laws;
 pub mod packet;
-#[cfg(test)]
-mod tests;
 
 pub use decoding::{decode, decode_context};
 pub use encoding::encode;

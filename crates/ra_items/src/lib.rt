@@ -6,7 +6,5 @@
 
 pub mod laws;
 pub mod reader;
-#[cfg(test)]
-mod tests;
 
 pub use reader::ItemReader;

@@ -5,16 +5,10 @@
 
 mod ask;
 pub mod ends;
-#[cfg(test)]
-mod hostile_tests;
 pub mod laws;
 pub mod link_core;
 mod phase;
 pub mod serve;
-#[cfg(test)]
-mod session_tests;
-#[cfg(test)]
-mod tests;
 mod turns;
 
 pub use ends::{CoreEnd, LinkEnd};

@@ -11,8 +11,6 @@ pub mod laws;
 pub mod opening;
 mod phase;
 mod shaking;
-#[cfg(test)]
-mod tests;
 pub mod writing;
 
 pub use ends::{OpeningEnd, OpeningStep};

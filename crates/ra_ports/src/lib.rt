@@ -10,8 +10,6 @@ pub mod entropy;
 pub mod laws;
 pub mod link;
 pub mod link_step;
-#[cfg(test)]
-mod link_tests;
 pub mod mem_clock;
 pub mod mem_entropy;
 pub mod mem_link;
@@ -20,8 +18,6 @@ pub mod mem_source;
 pub mod signer;
 pub mod sink;
 pub mod source;
-#[cfg(test)]
-mod tests;
 
 pub use clock::Clock;
 pub use entropy::Entropy;

@@ -9,6 +9,3 @@ pub mod unacked;
 pub use ids::Ids;
 pub use ra_model::Entry;
 pub use unacked::Unacked;
-
-#[cfg(test)]
-mod tests;

@@ -12,8 +12,6 @@ pub mod registry;
 pub mod row;
 mod rows;
 mod start;
-#[cfg(test)]
-mod tests;
 
 pub use fault::AdmitFault;
 pub use past::{Did, Past};

@@ -27,8 +27,3 @@ pub use line::{Line, ScriptFault, What};
 pub use printing::print;
 pub use reading::parse;
 pub use words::number;
-
-#[cfg(test)]
-mod grand_tests;
-#[cfg(test)]
-mod tests;

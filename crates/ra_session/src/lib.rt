@@ -12,8 +12,6 @@ mod packets;
 mod requests;
 mod session;
 mod telling;
-#[cfg(test)]
-mod tests;
 mod ticking;
 mod turning;
 mod values;

@@ -16,8 +16,6 @@ pub mod laws;
 mod reading;
 pub mod server;
 pub mod settings;
-#[cfg(test)]
-mod tests;
 pub mod texts;
 pub mod tokens;
 mod verdict;

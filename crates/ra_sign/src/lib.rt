@@ -9,8 +9,6 @@ pub mod drawn;
 pub mod equality;
 pub mod keyed;
 pub mod laws;
-#[cfg(test)]
-mod tests;
 
 pub use codes::hmac;
 pub use drawn::Drawn;

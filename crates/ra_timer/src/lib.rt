@@ -7,6 +7,3 @@ pub mod alarms;
 pub mod timers;
 
 pub use timers::{Alarm, Due, Timers};
-
-#[cfg(test)]
-mod tests;

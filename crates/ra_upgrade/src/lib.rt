@@ -17,6 +17,3 @@ pub use answer_head::{AnswerFault, read_answer};
 pub use client_request::request;
 pub use request_head::{HeadFault, Upgrade, read_head};
 pub use server_answer::{answer, refusal};
-
-#[cfg(test)]
-mod tests;

@@ -13,8 +13,6 @@ mod making;
 mod memory;
 mod number;
 mod reading;
-#[cfg(test)]
-mod tests;
 pub mod text;
 pub mod value;
 mod writing;

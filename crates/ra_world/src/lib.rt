@@ -7,8 +7,6 @@ mod link;
 mod peer;
 mod peers;
 pub mod run;
-#[cfg(test)]
-mod tests;
 pub mod world;
 
 pub use ra_model::{Effect, EventFault};

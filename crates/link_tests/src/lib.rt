@@ -1,0 +1,11 @@
+//! Tests of served links and of the world of a hub, its clients and its links, where no contract says what they do.
+#![tactic(auto)]
+
+#[cfg(test)]
+mod grand_worlds;
+#[cfg(test)]
+mod hostile_links;
+#[cfg(test)]
+mod served_links;
+#[cfg(test)]
+mod sessions_over_links;
