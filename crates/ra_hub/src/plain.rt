@@ -36,8 +36,15 @@ pub struct PlainHub<R: Keeper + Drop> {
 }
 
 impl<R: Keeper + Drop> PlainHub<R> {
-    ghost use Rattle.ra_hub.specs.Keeping.{Keeps};
+    ghost use Rattle.ra_hub.specs.Keeping.{Keeps, keeper_of};
     ghost use Rattle.ra_hub.specs.Standing.{StandsForHub};
+
+    /// Ends the hub, and gives its keeper back.
+    pub fn into_keeper(self) -> R
+        ensures { result ≡ keeper_of self }
+    {
+        self.keeper
+    }
 
     /// Judges a request that makes no session: a reconnection, or one whose session is there.
     fn admit_known(&mut self, alloc: Global, ask: Request, now: Moment) -> Result<Seat, HubFault>

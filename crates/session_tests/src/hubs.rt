@@ -374,7 +374,7 @@ fn starts_again(hub: &mut PlainHub<MemKeeper>, alloc: Global) -> Result<bool, Fa
 fn an_acceptance_is_kept_before_it_is_answered(rt: HostRuntime) -> Result<(), Fail> {
     let mut hub = failing(rt.alloc())?;
     assert!(rt; second_is_not_kept(&mut hub, rt.alloc())?);
-    let kept = hub.keeper.all(rt.alloc()).ok().ok_or("not told")?;
+    let kept = hub.into_keeper().all(rt.alloc()).ok().ok_or("not told")?;
     assert_eq!(rt; kept.len(), 2);
     assert_eq!(rt;
         (kept[0].epoch, kept[0].at, kept[1].epoch, kept[1].at),
