@@ -3,9 +3,9 @@
 # open at once.
 set -eu
 top=$(cd "$(dirname "$0")/.." && pwd)
-(cd "$top/crates/chan_bench" && rt run -- 0 0 >/dev/null 2>&1)
+(cd "$top/crates/bench" && rt run >/dev/null 2>&1)
 
-python3 - "$top/crates/chan_bench/out/chan_bench" <<'PYTHON'
+python3 - "$top/crates/bench/out/bench" <<'PYTHON'
 import subprocess, sys, time
 
 bench = sys.argv[1]
@@ -15,7 +15,7 @@ for count in (1000, 10000, 100000):
     least = float("inf")
     for _ in range(3):
         start = time.perf_counter()
-        printed = subprocess.run([bench, str(count), str(rounds)], check=True, capture_output=True).stdout
+        printed = subprocess.run([bench, "channels", str(count), str(rounds)], check=True, capture_output=True).stdout
         least = min(least, time.perf_counter() - start)
     if b"answered=1000000" not in printed:
         sys.exit("not each call was answered")

@@ -3,9 +3,9 @@
 # in which the pieces are made is in it; so the time for one byte is to be the same at 10 MB and at 100 MB.
 set -eu
 top=$(cd "$(dirname "$0")/.." && pwd)
-(cd "$top/crates/link_bench" && rt run -- 0 1 >/dev/null 2>&1)
+(cd "$top/crates/bench" && rt run >/dev/null 2>&1)
 
-python3 - "$top/crates/link_bench/out/link_bench" <<'PYTHON'
+python3 - "$top/crates/bench/out/bench" <<'PYTHON'
 import subprocess, sys, time
 
 bench = sys.argv[1]
@@ -15,7 +15,7 @@ for size in (65536, 100):
         least = float("inf")
         for _ in range(3):
             start = time.perf_counter()
-            printed = subprocess.run([bench, str(messages), str(size)], check=True, capture_output=True).stdout
+            printed = subprocess.run([bench, "link", str(messages), str(size)], check=True, capture_output=True).stdout
             least = min(least, time.perf_counter() - start)
         if b"jobs=%d" % messages not in printed:
             sys.exit("not each message became a job")

@@ -3,8 +3,8 @@
 # 10,000 and 100,000 sessions that are over; and the memory of a session that is over, with its two entries and its kept record.
 set -eu
 top=$(cd "$(dirname "$0")/.." && pwd)
-(cd "$top/crates/registry_bench" && rt run -- 0 0 >/dev/null 2>&1)
-bench=$top/crates/registry_bench/out/registry_bench
+(cd "$top/crates/bench" && rt run >/dev/null 2>&1)
+bench=$top/crates/bench/out/bench
 
 python3 - "$bench" <<'PYTHON'
 import os, subprocess, sys, time
@@ -16,7 +16,7 @@ def run(ended, twice):
     least, most = float("inf"), 0
     for _ in range(3):
         start = time.perf_counter()
-        child = subprocess.Popen([bench, str(ended), str(twice)], stdout=subprocess.DEVNULL)
+        child = subprocess.Popen([bench, "registry", str(ended), str(twice)], stdout=subprocess.DEVNULL)
         _, status, usage = os.wait4(child.pid, 0)
         if status != 0:
             sys.exit("the load failed")

@@ -3,9 +3,9 @@
 # making the sessions taken off.
 set -eu
 top=$(cd "$(dirname "$0")/.." && pwd)
-(cd "$top/crates/hub_bench" && rt run -- 0 0 >/dev/null 2>&1)
+(cd "$top/crates/bench" && rt run >/dev/null 2>&1)
 
-python3 - "$top/crates/hub_bench/out/hub_bench" <<'PYTHON'
+python3 - "$top/crates/bench/out/bench" <<'PYTHON'
 import subprocess, sys, time
 
 bench = sys.argv[1]
@@ -14,7 +14,7 @@ def least(sessions, rounds):
     best = float("inf")
     for _ in range(3):
         start = time.perf_counter()
-        printed = subprocess.run([bench, str(sessions), str(rounds)], check=True, capture_output=True).stdout
+        printed = subprocess.run([bench, "sessions", str(sessions), str(rounds)], check=True, capture_output=True).stdout
         best = min(best, time.perf_counter() - start)
     if b"answered=%d" % (sessions * rounds) not in printed:
         sys.exit("not each call was answered")

@@ -1,4 +1,4 @@
-// The plain twin of crates/values_bench, for bench/values.sh: the same values, written and read again in ordinary Rust.
+// The plain twin of the load `values` of crates/bench, for bench/values.sh: the same values, written and read again in ordinary Rust.
 use std::env;
 
 enum Value {

@@ -1,4 +1,4 @@
-//! The calls that are measured.
+//! A load for the channel server: calls that come, are handed out, and are answered in a random order.
 ghost use Rattle.std.specs.Prelude.{◌≡◌, ◌<◌, ◌^◌, true, IfOk};
 ghost use Rattle.ra_ipc.specs.Messages.{is_request};
 ghost use Rattle.ra_ipc.specs.Packets.{MessageFits};

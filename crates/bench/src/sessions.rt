@@ -1,4 +1,4 @@
-//! The calls that are measured.
+//! A load for the hub: sessions, and calls that come over the links of all of them in turn and are answered by hand.
 ghost use Rattle.std.specs.Prelude.{◌≡◌, ◌≢◌, ◌<◌, All, Some, IfOk};
 ghost use Rattle.ra_base.specs.declared.kind.Kind.TheVariants as kinds;
 ghost use Rattle.ra_hub.specs.HubSeats.{Stay};

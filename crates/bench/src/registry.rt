@@ -1,4 +1,4 @@
-//! The calls of the registry that are measured.
+//! A load for the registry: sessions that come and end, and then sessions that come, are lost, come again and end.
 ghost use Rattle.std.specs.Prelude.{◌≡◌, ◌≢◌, Some, IfOk};
 ghost use Rattle.ra_base.specs.declared.kind.Kind.TheVariants as kinds;
 ghost use Rattle.ra_registry.specs.Seats.{IsUnspent};

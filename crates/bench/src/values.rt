@@ -1,4 +1,4 @@
-//! The calls on values that are measured.
+//! A load for values: an array of many small values, or one large buffer, written and read again.
 
 use ra_values::{Bytes, NoMemory, Text, Value, append, read};
 use sqlite_items::Items;

@@ -1,7 +1,7 @@
 use Rattle.std.proofs.Common.{◌<◌, subst, sym}
 use Rattle.ra_base.specs.declared.key.Seat.{Seat}
-use Rattle.hub_bench.proofs.Stays.{all_stay}
-use Rattle.hub_bench.proofs.load.echo_all.Goals as goal
+use Rattle.bench.proofs.Stays.{all_stay}
+use Rattle.bench.proofs.sessions.echo_all.Goals as goal
 
 pub echo-requires : goal.echo-requires
 echo-requires g c =

@@ -1,7 +1,7 @@
 use Rattle.std.proofs.Common.{◌<◌, All, subst, sym}
 use Rattle.ra_base.specs.declared.key.Seat.{Seat}
-use Rattle.hub_bench.proofs.Stays.{all_more}
-use Rattle.hub_bench.proofs.load.open_all.Goals as goal
+use Rattle.bench.proofs.Stays.{all_more}
+use Rattle.bench.proofs.sessions.open_all.Goals as goal
 
 pub loop-n-preserved : goal.loop-n-preserved
 loop-n-preserved g c =

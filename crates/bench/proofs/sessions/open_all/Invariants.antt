@@ -1,6 +1,6 @@
 use Rattle.std.proofs.Common.{◌<◌, All}
 use Rattle.ra_base.specs.declared.key.Seat.{Seat}
-use Rattle.hub_bench.proofs.load.open_all.Given as goal
+use Rattle.bench.proofs.sessions.open_all.Given as goal
 
 abbrev pub invariant-loop-n : goal.invariant-loop-n
 invariant-loop-n g l =

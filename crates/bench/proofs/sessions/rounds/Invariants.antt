@@ -1,6 +1,6 @@
 use Rattle.std.proofs.Common.{◌<◌, All}
 use Rattle.ra_base.specs.declared.key.Seat.{Seat}
-use Rattle.hub_bench.proofs.load.rounds.Given as goal
+use Rattle.bench.proofs.sessions.rounds.Given as goal
 
 abbrev pub invariant-loop-round : goal.invariant-loop-round
 invariant-loop-round g l =

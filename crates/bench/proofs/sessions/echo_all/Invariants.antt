@@ -1,6 +1,6 @@
 use Rattle.std.proofs.Common.{◌<◌, All}
 use Rattle.ra_base.specs.declared.key.Seat.{Seat}
-use Rattle.hub_bench.proofs.load.echo_all.Given as goal
+use Rattle.bench.proofs.sessions.echo_all.Given as goal
 
 abbrev pub invariant-loop-seat : goal.invariant-loop-seat
 invariant-loop-seat g l =

@@ -1,4 +1,4 @@
-//! The connection that is measured.
+//! A load for a served connection: messages of an extension host that come in pieces.
 ghost use Rattle.std.specs.Prelude.{◌<◌};
 
 use ra_base::{Message, Moment, NoMemory, Token};
