@@ -1,28 +1,7 @@
-//! The remote agent's programs: the command words, the lines that they print, and the statuses.
-//!
-//! `run_plain` runs the commands that need no socket over any source and sink; `main` gives it the process's own.
+//! The remote agent's program: it hands the process's words, input and output to the commands.
 #![tactic(auto)]
 
-mod command;
-mod grand;
-mod grand_lines;
-#[cfg(test)]
-mod grand_tests;
-mod lines;
-mod plain;
-mod read_whole;
-mod receive;
-mod receiver;
-mod replay;
-mod replay_lines;
-mod report;
-#[cfg(test)]
-mod script_tests;
-mod soak;
-#[cfg(test)]
-mod tests;
-
-use plain::run_plain;
+use ra_commands::run_plain;
 use ra_ports::{StdSink, StdSource};
 use std::env;
 use std::process::ExitCode;

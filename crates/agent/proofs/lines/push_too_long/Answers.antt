@@ -1,5 +1,0 @@
-use Rattle.std.proofs.Common.{append_assoc}
-use Rattle.agent.proofs.lines.push_too_long.Goals as goal
-
-pub returns : goal.returns
-returns c = rw (c.in_ok-push_place.ensures, c.in_ok-push_decimal.ensures, c.in_ok-extend_from_slice.ensures.items) (simp append_assoc)

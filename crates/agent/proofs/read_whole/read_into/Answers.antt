@@ -1,5 +1,0 @@
-use Rattle.agent.proofs.WholeLemmas.{reading_at_start}
-use Rattle.agent.proofs.read_whole.read_into.Goals as goal
-
-pub pieces-init : goal.pieces-init
-pieces-init g c = reading_at_start c.args.limit _ _ _ c.new-bytes.ensures.items

@@ -1,5 +1,0 @@
-use Rattle.agent.proofs.SoakLemmas.{summed}
-use Rattle.agent.proofs.soak.summarize.Goals as goal
-
-pub returns : goal.returns
-returns c = λ w stands. summed c.args.start c.args.steps c.args.lines _ w _ _ _ _ _ stands c.links.ensures c.said.ensures c.heard.ensures c.said-2.ensures c.heard-2.ensures

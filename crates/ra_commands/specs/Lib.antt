@@ -1,0 +1,4 @@
+pub mod GrandLines
+pub mod GrandSteps
+pub mod Grand
+pub mod Programs

@@ -1,0 +1,12 @@
+pub mod Listening
+pub mod Outlooks
+pub mod Drains
+pub mod PieceLemmas
+pub mod Runs
+pub mod Receiving
+pub mod WholeLemmas
+pub mod StepLemmas
+pub mod DrainLemmas
+pub mod ScriptLemmas
+pub mod ReplayLemmas
+pub mod SoakLemmas
