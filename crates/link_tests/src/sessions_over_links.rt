@@ -3,8 +3,8 @@ ghost use Rattle.std.specs.Prelude.{IfOk};
 ghost use Rattle.ra_values.specs.Spelling.{Fits, levels};
 ghost use Rattle.ra_values.specs.View.{tree};
 ghost use Rattle.ra_session.specs.View.{TellFits};
-ghost use Rattle.ra_link.specs.Cores.{seat_in};
-ghost use Rattle.ra_link.specs.Makes.{Holds};
+ghost use Rattle.ra_link_core.specs.Cores.{seat_in};
+ghost use Rattle.ra_link_core.specs.Makes.{Holds};
 
 use ra_base::{Key, Kind, Message, Moment, NoMemory, Token};
 use ra_chan_server::Fire;
@@ -189,7 +189,7 @@ fn answer_to(alloc: Global, id: i32) -> Result<Tell, Fail>
 }
 
 /// The call with this id is answered.
-#[tactic(auto, using(ra_link::proofs::SeatLemmas::holds_stay))]
+#[tactic(auto, using(ra_link_core::proofs::SeatLemmas::holds_stay))]
 fn tell<H: Hub>(
     alloc: Global,
     core: &LinkCore,
@@ -209,7 +209,7 @@ fn tell<H: Hub>(
 }
 
 /// A tick at this moment.
-#[tactic(auto, using(ra_link::proofs::SeatLemmas::holds_stay))]
+#[tactic(auto, using(ra_link_core::proofs::SeatLemmas::holds_stay))]
 fn tick<H: Hub>(alloc: Global, core: &LinkCore, hub: &mut H, millis: u64)
     requires { Holds (H.seats hub.old) (seat_in core.now) }
     ensures { Holds (H.seats hub.new) (seat_in core.now) }

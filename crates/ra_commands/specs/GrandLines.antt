@@ -6,8 +6,8 @@ use Rattle.ra_ipc.specs.ChannelPairs.{Outcome as CallOutcome, cancelled, answere
 use Rattle.ra_ipc.specs.Messages.{Reply, success, error, error_obj}
 use Rattle.ra_session.specs.Hearing.{Happening, work, host, call_settled, event_fired}
 use Rattle.ra_session.specs.SessionRefusals as refusals
-use Rattle.ra_link.specs.LinkRuns.{End, head_refused, request_refused, refused_by}
-use Rattle.ra_link.specs.Makes.{Outcome, goes, over, unkept, short}
+use Rattle.ra_link_core.specs.LinkRuns.{End, head_refused, request_refused, refused_by}
+use Rattle.ra_link_core.specs.Makes.{Outcome, goes, over, unkept, short}
 use Rattle.ra_dial.specs.Acts.{Act, nothing, quiet, rest_until, connect, drop_link, happened, ends}
 use Rattle.ra_dial.specs.declared.values.DialEnd.{DialEnd}
 use Rattle.ra_dial.specs.declared.values.DialEnd.TheVariants as dial_ends

@@ -1,7 +1,7 @@
 //! The lines that `grand` prints, each added to a text.
 ghost use Rattle.std.specs.Prelude.{◌≡◌, ◌≢◌, ◌++◌, ℕ, List, OnOk, IfSome, Option, Some, option_map, codes, decimal};
 ghost use Rattle.ra_ipc.specs.View.{id_of};
-ghost use Rattle.ra_link.specs.Makes.{outcome_of as core_outcome};
+ghost use Rattle.ra_link_core.specs.Makes.{outcome_of as core_outcome};
 ghost use Rattle.ra_session.specs.View.{outcome_of};
 ghost use Rattle.ra_values.specs.ValueBytes.{value_bytes};
 ghost use Rattle.ra_values.specs.View.{tree};
@@ -19,7 +19,7 @@ use ra_endpoint_commands::replay_lines::{push_between, push_text};
 use ra_grand::{GrandEffect, GrandFault};
 use ra_hub::Swept;
 use ra_ipc::Answer;
-use ra_link::CoreEnd;
+use ra_link_core::CoreEnd;
 use ra_script::GrandEvent;
 use ra_session::Outcome;
 use ra_values::{Value, append};

@@ -12,9 +12,9 @@ use Rattle.ra_items.specs.Items.Item.{HeadItem}
 use Rattle.ra_opening.specs.Openings.{Grounds, Opened, Stage, begun, item_done, new_opened, opened}
 use Rattle.ra_opening.specs.Openings.Stage.{Heading, Shaking, Asked, Over}
 use Rattle.ra_opening.proofs.RunLemmas.{opened_is, item_by, items_grow}
-use Rattle.ra_link.specs.LinkRuns.{Serving, Piece, opening_by, piece_done, served, turns_for, with_piece}
-use Rattle.ra_link.proofs.GrowLemmas.{grows_asked, grows_served}
-use Rattle.ra_link.proofs.PieceLemmas.{opened_as, piece_opening, piece_seated}
+use Rattle.ra_link_core.specs.LinkRuns.{Serving, Piece, opening_by, piece_done, served, turns_for, with_piece}
+use Rattle.ra_link_core.proofs.GrowLemmas.{grows_asked, grows_served}
+use Rattle.ra_link_core.proofs.PieceLemmas.{opened_as, piece_opening, piece_seated}
 use Rattle.ra_grand.specs.Marks.{Mark, whole, short, unticked}
 use Rattle.ra_grand.specs.Reached.{Agrees, Begins}
 use Rattle.ra_grand.specs.ServedLinks.{came_by, left, settled}

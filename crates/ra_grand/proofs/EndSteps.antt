@@ -12,11 +12,11 @@ use Rattle.ra_opening.specs.Stands.{OpeningState, Stands, StandsIn, NeedsFraming
 use Rattle.ra_opening.proofs.RunLemmas.{opened_is}
 use Rattle.ra_hub.specs.Hubs.{Hub}
 use Rattle.ra_hub.specs.Jobs.{SeenJob}
-use Rattle.ra_link.specs.LinkRuns.{Serving, asks_framing, with_piece}
-use Rattle.ra_link.specs.Cores.{CoreStands, NotHeld, counted_in}
-use Rattle.ra_link.specs.declared.phase.Phase.{Phase}
-use Rattle.ra_link.specs.declared.phase.Phase.TheVariants as phases
-use Rattle.ra_link.proofs.PieceLemmas.{unheld_stands}
+use Rattle.ra_link_core.specs.LinkRuns.{Serving, asks_framing, with_piece}
+use Rattle.ra_link_core.specs.Cores.{CoreStands, NotHeld, counted_in}
+use Rattle.ra_link_core.specs.declared.phase.Phase.{Phase}
+use Rattle.ra_link_core.specs.declared.phase.Phase.TheVariants as phases
+use Rattle.ra_link_core.proofs.PieceLemmas.{unheld_stands}
 use Rattle.ra_grand.specs.Draws.{own_then, first_draws}
 use Rattle.ra_grand.specs.GrandClients.{ServerEnd}
 use Rattle.ra_grand.specs.ServerStates.{GoesAs}

@@ -6,11 +6,11 @@ use Rattle.ra_items.specs.Heads.{Head}
 use Rattle.ra_opening.specs.Openings.{Grounds}
 use Rattle.ra_hub.specs.Hubs.{Hub}
 use Rattle.ra_hub.specs.Jobs.{SeenJob}
-use Rattle.ra_link.specs.LinkRuns.{Serving, asks_framing}
-use Rattle.ra_link.specs.Cores.{CoreStands, NotHeld}
-use Rattle.ra_link.specs.declared.phase.Phase.{Phase}
-use Rattle.ra_link.specs.declared.phase.Phase.TheVariants as phases
-use Rattle.ra_link.proofs.CutLemmas.{held_asks_in}
+use Rattle.ra_link_core.specs.LinkRuns.{Serving, asks_framing}
+use Rattle.ra_link_core.specs.Cores.{CoreStands, NotHeld}
+use Rattle.ra_link_core.specs.declared.phase.Phase.{Phase}
+use Rattle.ra_link_core.specs.declared.phase.Phase.TheVariants as phases
+use Rattle.ra_link_core.proofs.CutLemmas.{held_asks_in}
 
 pub core_free : (phase : Phase) (g : Grounds) (head : Head Upgrade HeadFault) (text before : List ℕ) (next : ℕ → List ℕ) (stands : Hub → Type 0) (jobs : Option (List SeenJob)) (out : List ℕ) (s : Serving)
     → CoreStands phase g head text before next stands jobs out s → asks_framing head.says ≡ false → NotHeld phase

@@ -8,10 +8,10 @@ use Rattle.ra_model.specs.Refusals.{or_fault, fault_if}
 use Rattle.ra_hub.specs.Jobs.{seen}
 use Rattle.ra_hub.specs.JobLists.{jobs_in}
 use Rattle.ra_hub.specs.Keeping.{Stands}
-use Rattle.ra_link.specs.LinkRuns.{hub_left}
-use Rattle.ra_link.specs.Cores.{seat_in}
-use Rattle.ra_link.specs.declared.phase.Phase.{Phase}
-use Rattle.ra_link.specs.declared.phase.Phase.TheVariants as phases
+use Rattle.ra_link_core.specs.LinkRuns.{hub_left}
+use Rattle.ra_link_core.specs.Cores.{seat_in}
+use Rattle.ra_link_core.specs.declared.phase.Phase.{Phase}
+use Rattle.ra_link_core.specs.declared.phase.Phase.TheVariants as phases
 use Rattle.ra_grand.specs.declared.effect.GrandEffect.{GrandEffect}
 use Rattle.ra_grand.specs.declared.effect.GrandEffect.TheVariants as grand_effects
 use Rattle.ra_grand.specs.declared.fault.GrandFault.{GrandFault}

@@ -20,7 +20,7 @@ use Rattle.ra_upgrade.specs.RequestTexts.{key_text}
 use Rattle.ra_upgrade.proofs.RequestReadLemmas.{request_read, request_open}
 use Rattle.ra_items.specs.Heads.{Head, IsRequestOf, answered, sized}
 use Rattle.ra_dial.specs.Clients.{request_of}
-use Rattle.ra_link.specs.LinkRuns.{asks_framing}
+use Rattle.ra_link_core.specs.LinkRuns.{asks_framing}
 use Rattle.ra_grand.specs.GrandClients.{GrandLink}
 use Rattle.ra_grand.specs.Pieces.{Continues}
 use Rattle.ra_grand.specs.Reached.{Agrees, Begins, LinkHolds, EndHolds, read_of}

@@ -5,10 +5,10 @@ use Rattle.std.specs.Prelude.{nat_lt, slice_get, slice_set}
 use Rattle.ra_base.specs.declared.key.Seat.{Seat}
 use Rattle.ra_keep.specs.declared.mem_keeper.MemKeeper.{MemKeeper}
 use Rattle.ra_hub.specs.declared.plain.PlainHub.{PlainHub}
-use Rattle.ra_link.specs.Cores.{seat_in}
-use Rattle.ra_link.specs.Makes.{owned}
-use Rattle.ra_link.specs.declared.phase.Phase.{Phase}
-use Rattle.ra_link.specs.declared.phase.Phase.TheVariants as phases
+use Rattle.ra_link_core.specs.Cores.{seat_in}
+use Rattle.ra_link_core.specs.Makes.{owned}
+use Rattle.ra_link_core.specs.declared.phase.Phase.{Phase}
+use Rattle.ra_link_core.specs.declared.phase.Phase.TheVariants as phases
 use Rattle.ra_model.specs.Links.{at_number}
 use Rattle.ra_opening.specs.Stands.{new_opening}
 use Rattle.ra_dial.specs.Calling.{is_calling}

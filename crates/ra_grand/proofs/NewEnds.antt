@@ -11,7 +11,7 @@ use Rattle.ra_items.proofs.ReaderLemmas.{read_nothing}
 use Rattle.ra_opening.specs.Openings.{Opened}
 use Rattle.ra_opening.specs.Stands.{new_opening}
 use Rattle.ra_opening.proofs.RunLemmas.{opened_is}
-use Rattle.ra_link.specs.declared.phase.Phase.TheVariants as phases
+use Rattle.ra_link_core.specs.declared.phase.Phase.TheVariants as phases
 use Rattle.ra_dial.specs.Clients.{Settings, request_of}
 use Rattle.ra_grand.specs.GrandClients.{new_end}
 use Rattle.ra_grand.specs.Reached.{EndHolds}

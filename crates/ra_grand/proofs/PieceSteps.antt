@@ -16,15 +16,15 @@ use Rattle.ra_hub.specs.JobLists.{jobs_in}
 use Rattle.ra_hub.specs.Keeping.{Stands}
 use Rattle.ra_hub.specs.declared.jobs.JobList.{JobList}
 use Rattle.ra_hub.specs.declared.plain.PlainHub.{PlainHub}
-use Rattle.ra_link.specs.HubEvents.{HubEvent, events_done, events_jobs, events_bytes, seats_by}
-use Rattle.ra_link.specs.LinkRuns.{Serving, End, asks_framing, with_piece, piece_done}
-use Rattle.ra_link.specs.Makes.{Happens, Grows, Tells, Outcome, goes, over, unkept, short, outcome_of}
-use Rattle.ra_link.specs.Cores.{CoreStands, CoreMakes, NotHeld, base_of, seat_in}
-use Rattle.ra_link.specs.declared.ends.CoreEnd.{CoreEnd}
-use Rattle.ra_link.specs.declared.ends.CoreEnd.TheVariants as ends
-use Rattle.ra_link.specs.declared.phase.Phase.{Phase}
-use Rattle.ra_link.specs.declared.phase.Phase.TheVariants as phases
-use Rattle.ra_link.proofs.PieceLemmas.{piece_happens}
+use Rattle.ra_link_core.specs.HubEvents.{HubEvent, events_done, events_jobs, events_bytes, seats_by}
+use Rattle.ra_link_core.specs.LinkRuns.{Serving, End, asks_framing, with_piece, piece_done}
+use Rattle.ra_link_core.specs.Makes.{Happens, Grows, Tells, Outcome, goes, over, unkept, short, outcome_of}
+use Rattle.ra_link_core.specs.Cores.{CoreStands, CoreMakes, NotHeld, base_of, seat_in}
+use Rattle.ra_link_core.specs.declared.ends.CoreEnd.{CoreEnd}
+use Rattle.ra_link_core.specs.declared.ends.CoreEnd.TheVariants as ends
+use Rattle.ra_link_core.specs.declared.phase.Phase.{Phase}
+use Rattle.ra_link_core.specs.declared.phase.Phase.TheVariants as phases
+use Rattle.ra_link_core.proofs.PieceLemmas.{piece_happens}
 use Rattle.ra_grand.proofs.FreeLinks.{core_free}
 use Rattle.ra_grand.specs.Draws.{nth_draw, draws_after}
 use Rattle.ra_grand.specs.Fits.{IsPart, bytes_behind}

@@ -8,10 +8,10 @@ use Rattle.ra_hub.specs.Hubs.{Hub}
 use Rattle.ra_hub.specs.Keeping.{Stands}
 use Rattle.ra_hub.specs.declared.jobs.JobList.{JobList}
 use Rattle.ra_hub.specs.declared.plain.PlainHub.{PlainHub}
-use Rattle.ra_link.specs.HubEvents.{HubEvent, events_done, events_jobs, events_bytes, seats_by}
-use Rattle.ra_link.specs.LinkRuns.{Serving}
-use Rattle.ra_link.specs.Makes.{Happens, Outcome, short}
-use Rattle.ra_link.specs.declared.phase.Phase.{Phase}
+use Rattle.ra_link_core.specs.HubEvents.{HubEvent, events_done, events_jobs, events_bytes, seats_by}
+use Rattle.ra_link_core.specs.LinkRuns.{Serving}
+use Rattle.ra_link_core.specs.Makes.{Happens, Outcome, short}
+use Rattle.ra_link_core.specs.declared.phase.Phase.{Phase}
 use Rattle.ra_grand.specs.declared.spot.Spot.{Spot}
 use Rattle.ra_grand.specs.declared.world.GrandWorld.{GrandWorld}
 use Rattle.ra_grand.specs.ClientLinks.{LinkTurnsAt}

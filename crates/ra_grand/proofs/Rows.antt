@@ -25,7 +25,7 @@ use Rattle.ra_grand.specs.Grands.{Grand, new_grand}
 use Rattle.ra_grand.specs.Marks.{whole}
 use Rattle.ra_grand.specs.ServedLinks.{server_left, piece_came, served}
 use Rattle.ra_items.specs.Items.{items}
-use Rattle.ra_link.specs.LinkRuns.{piece_done, with_piece}
+use Rattle.ra_link_core.specs.LinkRuns.{piece_done, with_piece}
 use Rattle.ra_opening.specs.Openings.{opened, item_done}
 
 -- the answers to events that are all applied whole

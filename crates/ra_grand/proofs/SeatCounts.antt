@@ -6,9 +6,9 @@ use Rattle.ra_keep.specs.declared.mem_keeper.MemKeeper.{MemKeeper}
 use Rattle.ra_hub.specs.HubSeats.{Stay}
 use Rattle.ra_hub.specs.Keeping.{seats_of}
 use Rattle.ra_hub.specs.declared.plain.PlainHub.{PlainHub}
-use Rattle.ra_link.specs.Cores.{seat_in}
-use Rattle.ra_link.specs.Makes.{Balance, Holds, owned}
-use Rattle.ra_link.proofs.AskLemmas.{given_seat}
+use Rattle.ra_link_core.specs.Cores.{seat_in}
+use Rattle.ra_link_core.specs.Makes.{Balance, Holds, owned}
+use Rattle.ra_link_core.proofs.AskLemmas.{given_seat}
 use Rattle.ra_grand.specs.Pieces.{left_state}
 use Rattle.ra_grand.specs.ServerStates.{ServedState, seats_held, HoldsSeats}
 

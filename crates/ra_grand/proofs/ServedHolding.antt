@@ -11,7 +11,7 @@ use Rattle.ra_upgrade.specs.AnswerTexts.{answer_text}
 use Rattle.ra_upgrade.specs.Exchange.{requested}
 use Rattle.ra_upgrade.specs.RequestTexts.{key_text}
 use Rattle.ra_items.specs.Heads.{Head}
-use Rattle.ra_link.specs.LinkRuns.{Serving}
+use Rattle.ra_link_core.specs.LinkRuns.{Serving}
 use Rattle.ra_grand.specs.GrandClients.{GrandLink, Client}
 use Rattle.ra_grand.specs.Grands.{Grand, with_link}
 use Rattle.ra_grand.specs.Marks.{Mark}

@@ -6,9 +6,9 @@ use Rattle.ra_hub.specs.Hubs.{Hub}
 use Rattle.ra_hub.specs.Keeping.{Stands}
 use Rattle.ra_hub.specs.declared.jobs.JobList.{JobList}
 use Rattle.ra_hub.specs.declared.plain.PlainHub.{PlainHub}
-use Rattle.ra_link.specs.Cores.{seat_in}
-use Rattle.ra_link.specs.LinkRuns.{hub_left}
-use Rattle.ra_link.specs.Makes.{Outcome}
+use Rattle.ra_link_core.specs.Cores.{seat_in}
+use Rattle.ra_link_core.specs.LinkRuns.{hub_left}
+use Rattle.ra_link_core.specs.Makes.{Outcome}
 use Rattle.ra_grand.specs.Pieces.{Takes, PieceAt, LeavesAt, left_state}
 use Rattle.ra_grand.specs.ServerStates.{ServerState, ServedState}
 

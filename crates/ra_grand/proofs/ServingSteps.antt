@@ -8,9 +8,9 @@ use Rattle.ra_model.specs.Links.{at_number, put_number, read_on, written_to}
 use Rattle.ra_hub.specs.Jobs.{seen}
 use Rattle.ra_hub.specs.JobLists.{jobs_in}
 use Rattle.ra_hub.specs.Keeping.{Stands}
-use Rattle.ra_link.specs.LinkRuns.{Serving, hub_left}
-use Rattle.ra_link.specs.Makes.{Outcome}
-use Rattle.ra_link.specs.declared.phase.Phase.{Phase}
+use Rattle.ra_link_core.specs.LinkRuns.{Serving, hub_left}
+use Rattle.ra_link_core.specs.Makes.{Outcome}
+use Rattle.ra_link_core.specs.declared.phase.Phase.{Phase}
 use Rattle.ra_grand.specs.declared.spot.Spot.{Spot}
 use Rattle.ra_grand.specs.declared.world.GrandWorld.{GrandWorld}
 use Rattle.ra_grand.specs.ClientStates.{ClientState}

@@ -1,7 +1,7 @@
 -- Whether the mark of an event fits the world before it.
 use Rattle.std.specs.Prelude.{ℕ, ◌+◌, ◌≤◌, Option, Some, None, List, [], ◌∷◌, length, take, drop, ⊤}
-use Rattle.ra_link.specs.HubEvents.{events_done, events_bytes}
-use Rattle.ra_link.specs.LinkRuns.{Serving}
+use Rattle.ra_link_core.specs.HubEvents.{events_done, events_bytes}
+use Rattle.ra_link_core.specs.LinkRuns.{Serving}
 use Rattle.ra_script.specs.declared.grand_line.GrandEvent.{GrandEvent}
 use Rattle.ra_script.specs.declared.grand_line.GrandEvent.TheVariants as events
 use Rattle.ra_grand.specs.GrandRuns.{bytes_up, after}

@@ -8,7 +8,7 @@ use Rattle.ra_upgrade.specs.declared.request_head.HeadFault.{HeadFault}
 use Rattle.ra_upgrade.specs.declared.request_head.Upgrade.{Upgrade}
 use Rattle.ra_items.specs.Heads.{Head}
 use Rattle.ra_session.specs.Sessions.{Session}
-use Rattle.ra_link.specs.LinkRuns.{Welcome}
+use Rattle.ra_link_core.specs.LinkRuns.{Welcome}
 use Rattle.ra_dial.specs.declared.values.DialEvent.{DialEvent}
 use Rattle.ra_dial.specs.declared.values.DialEvent.TheVariants as dial_events
 use Rattle.ra_dial.specs.Attempts.{Step}

@@ -3,7 +3,7 @@ use Rattle.std.specs.Prelude.{ℕ, ◌+◌, Option, Some, None, List, [], length
 use Rattle.ra_base.specs.declared.event.Count.{Count}
 use Rattle.ra_model.specs.Links.{at_number}
 use Rattle.ra_ipc.specs.ChannelPairs.{Outcome, cancelled}
-use Rattle.ra_link.specs.LinkRuns.{End, Serving}
+use Rattle.ra_link_core.specs.LinkRuns.{End, Serving}
 use Rattle.ra_dial.specs.Acts.{Act, nothing}
 use Rattle.ra_dial.specs.declared.values.DialEvent.{DialEvent}
 use Rattle.ra_dial.specs.declared.values.DialEvent.TheVariants as dial_events

@@ -1,7 +1,7 @@
 -- How a contract sees what an event answers.
 use Rattle.std.specs.Prelude.{◌≡◌, ℕ, Option, Some, None, Result, Ok, Err, List}
 use Rattle.ra_ipc.specs.View.{id_of}
-use Rattle.ra_link.specs.Makes.{Outcome, goes, over, unkept, short, outcome_of as ends_of}
+use Rattle.ra_link_core.specs.Makes.{Outcome, goes, over, unkept, short, outcome_of as ends_of}
 use Rattle.ra_session.specs.SessionRefusals.{Refusal as SessionRefusal, IsRefusal}
 use Rattle.ra_session.specs.View.{outcome_of}
 use Rattle.ra_dial.specs.Acts.{act_of}

@@ -10,11 +10,11 @@ use Rattle.ra_hub.specs.Hubs.{Hub}
 use Rattle.ra_hub.specs.JobLists.{jobs_in}
 use Rattle.ra_hub.specs.Jobs.{seen}
 use Rattle.ra_hub.specs.Keeping.{Stands}
-use Rattle.ra_link.specs.LinkRuns.{Serving, asks_framing, hub_left}
-use Rattle.ra_link.specs.Makes.{Happens, Outcome, goes, over, unkept, short}
-use Rattle.ra_link.specs.Cores.{seat_in}
-use Rattle.ra_link.specs.declared.phase.Phase.{Phase}
-use Rattle.ra_link.specs.declared.phase.Phase.TheVariants as phases
+use Rattle.ra_link_core.specs.LinkRuns.{Serving, asks_framing, hub_left}
+use Rattle.ra_link_core.specs.Makes.{Happens, Outcome, goes, over, unkept, short}
+use Rattle.ra_link_core.specs.Cores.{seat_in}
+use Rattle.ra_link_core.specs.declared.phase.Phase.{Phase}
+use Rattle.ra_link_core.specs.declared.phase.Phase.TheVariants as phases
 use Rattle.ra_opening.specs.Stands.{new_opening}
 use Rattle.ra_grand.specs.Draws.{draws_after}
 use Rattle.ra_grand.specs.Fits.{MarkFits}

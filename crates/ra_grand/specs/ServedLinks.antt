@@ -3,8 +3,8 @@ use Rattle.std.specs.Prelude.{ℕ, ◌+◌, ◌-◌, ◌==◌, Bool, true, if◌
 use Rattle.std.specs.Option.{is_some}
 use Rattle.ra_base.specs.declared.event.Side.TheVariants.{A, B}
 use Rattle.ra_model.specs.Links.{read_on, written_to}
-use Rattle.ra_link.specs.HubEvents.{HubEvent, events_done, events_jobs, seats_by}
-use Rattle.ra_link.specs.LinkRuns.{Serving, piece_done, hub_left}
+use Rattle.ra_link_core.specs.HubEvents.{HubEvent, events_done, events_jobs, seats_by}
+use Rattle.ra_link_core.specs.LinkRuns.{Serving, piece_done, hub_left}
 use Rattle.ra_grand.specs.Draws.{draws_after, own_then, first_draws}
 use Rattle.ra_grand.specs.SetUps.{grounds}
 use Rattle.ra_grand.specs.GrandClients.{ServerEnd, GrandLink}

@@ -11,10 +11,10 @@ use Rattle.ra_hub.specs.Keeping.{Stands, seats_of}
 use Rattle.ra_opening.specs.Openings.{opened}
 use Rattle.ra_opening.specs.Stands.{OpeningState, NeedsFraming}
 use Rattle.ra_opening.specs.Stands as openings
-use Rattle.ra_link.specs.Cores.{seat_in}
-use Rattle.ra_link.specs.Makes.{owned}
-use Rattle.ra_link.specs.declared.phase.Phase.{Phase}
-use Rattle.ra_link.specs.declared.phase.Phase.TheVariants as phases
+use Rattle.ra_link_core.specs.Cores.{seat_in}
+use Rattle.ra_link_core.specs.Makes.{owned}
+use Rattle.ra_link_core.specs.declared.phase.Phase.{Phase}
+use Rattle.ra_link_core.specs.declared.phase.Phase.TheVariants as phases
 use Rattle.ra_grand.specs.Draws.{draws_after, own_then}
 use Rattle.ra_grand.specs.GrandClients.{ServerEnd, ends_of}
 use Rattle.ra_grand.specs.Grands.{Grand, Place}

@@ -3,8 +3,8 @@ use Rattle.std.specs.Prelude.{◌≡◌, ℕ, false, Option, Some, Result, Ok, E
 use Rattle.ra_base.specs.declared.event.Side.TheVariants.{B}
 use Rattle.ra_model.specs.Links.{readable}
 use Rattle.ra_model.specs.Refusals.{or_fault}
-use Rattle.ra_link.specs.Makes.{Outcome, short}
-use Rattle.ra_link.specs.declared.phase.Phase.{Phase}
+use Rattle.ra_link_core.specs.Makes.{Outcome, short}
+use Rattle.ra_link_core.specs.declared.phase.Phase.{Phase}
 use Rattle.ra_grand.specs.declared.fault.GrandFault.{GrandFault}
 use Rattle.ra_grand.specs.declared.spot.Spot.{Spot}
 use Rattle.ra_grand.specs.declared.world.GrandWorld.{GrandWorld}

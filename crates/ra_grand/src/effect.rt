@@ -2,7 +2,7 @@
 use ra_base::Message;
 use ra_dial::DialAct;
 use ra_hub::Swept;
-use ra_link::CoreEnd;
+use ra_link_core::CoreEnd;
 use ra_session::Outcome;
 
 /// What an event answers.

@@ -3,7 +3,7 @@ ghost use Rattle.std.specs.Prelude.{◌≡◌, ◌≢◌, ◌+◌, ◌++◌, ◌
 ghost use Rattle.ra_base.specs.TokenGrammar.{IsToken};
 ghost use Rattle.ra_base.specs.declared.kind.Kind.TheVariants as kinds;
 ghost use Rattle.ra_dial.specs.declared.values.DialEvent.TheVariants as events;
-ghost use Rattle.ra_link.specs.declared.phase.Phase.TheVariants as phases;
+ghost use Rattle.ra_link_core.specs.declared.phase.Phase.TheVariants as phases;
 ghost use Rattle.ra_model.specs.Links.{at_number};
 ghost use Rattle.ra_opening.specs.Stands.{new_opening};
 ghost use Rattle.ra_grand.specs.Grands as grand;
@@ -20,7 +20,7 @@ use crate::server::Server;
 use crate::world::{GrandWorld, index_of};
 use ra_base::{Key, NoMemory};
 use ra_dial::DialEvent;
-use ra_link::LinkCore;
+use ra_link_core::LinkCore;
 use ra_upgrade::laws::answer_is_read;
 use std::alloc::Global;
 

@@ -2,9 +2,9 @@
 ghost use Rattle.std.specs.Prelude.{◌≡◌, [], None};
 ghost use Rattle.ra_hub.specs.Hubs as spec;
 ghost use Rattle.ra_hub.specs.Keeping.{Stands, seats_of};
-ghost use Rattle.ra_link.specs.Cores.{seat_in};
-ghost use Rattle.ra_link.specs.LinkRuns.{hub_left};
-ghost use Rattle.ra_link.specs.Makes.{Balance, Holds, outcome_of};
+ghost use Rattle.ra_link_core.specs.Cores.{seat_in};
+ghost use Rattle.ra_link_core.specs.LinkRuns.{hub_left};
+ghost use Rattle.ra_link_core.specs.Makes.{Balance, Holds, outcome_of};
 ghost use Rattle.ra_grand.specs.Pieces.{Takes, left_state};
 ghost use Rattle.ra_grand.specs.SetUps.{secret, shake_settings};
 
@@ -13,7 +13,7 @@ use crate::settings::ServerSettings;
 use ra_base::Moment;
 use ra_hub::{JobList, PlainHub};
 use ra_keep::MemKeeper;
-use ra_link::{CoreEnd, LinkCore};
+use ra_link_core::{CoreEnd, LinkCore};
 use std::alloc::Global;
 use std::marker::Model;
 use std::mem;

@@ -1,7 +1,7 @@
 //! The server's side of a world: its hub, its draws, the jobs that wait, and its ends of the links. It has no bytes of a link and no client.
 ghost use Rattle.std.specs.Prelude.{◌≡◌, ◌<◌, [], Some, length, slice_get};
 ghost use Rattle.ra_hub.specs.JobLists.{jobs_in};
-ghost use Rattle.ra_link.specs.Makes.{outcome_of};
+ghost use Rattle.ra_link_core.specs.Makes.{outcome_of};
 ghost use Rattle.ra_grand.specs.Grands.{new_grand};
 ghost use Rattle.ra_grand.specs.Pieces.{PieceAt, LeavesAt};
 ghost use Rattle.ra_grand.specs.ServerStates.{ServedState, StandsForServer};
@@ -13,7 +13,7 @@ use crate::settings::ServerSettings;
 use ra_base::Moment;
 use ra_hub::{JobList, PlainHub};
 use ra_keep::MemKeeper;
-use ra_link::CoreEnd;
+use ra_link_core::CoreEnd;
 use std::alloc::Global;
 use std::marker::Model;
 

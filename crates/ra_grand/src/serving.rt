@@ -1,7 +1,7 @@
 //! Bytes that come to the server's end of a link, and a link that the server leaves.
 ghost use Rattle.std.specs.Prelude.{◌≡◌, ◌<◌, [], length, IfOk};
 ghost use Rattle.ra_base.specs.declared.event.Side.TheVariants as sides;
-ghost use Rattle.ra_link.specs.Makes.{outcome_of};
+ghost use Rattle.ra_link_core.specs.Makes.{outcome_of};
 ghost use Rattle.ra_model.specs.Refusals.{or_fault};
 ghost use Rattle.ra_grand.specs.ClientLinks.{HasUnread};
 ghost use Rattle.ra_grand.specs.Fits.{MovesFit};
@@ -23,7 +23,7 @@ use crate::settings::ServerSettings;
 use crate::spot::Spot;
 use crate::world::GrandWorld;
 use ra_base::{Count, Message, NoMemory, Side};
-use ra_link::CoreEnd;
+use ra_link_core::CoreEnd;
 
 /// The end of a link whose bytes were put on it, or not for want of memory.
 fn end_of(end: Option<CoreEnd>, put: Result<(), NoMemory>) -> Option<CoreEnd>

@@ -3,7 +3,7 @@ ghost use Rattle.std.specs.Prelude.{◌≡◌, IfOk};
 ghost use Rattle.ra_grand.specs.SetUps.{secret, shake_settings};
 
 use ra_base::{Message, NoMemory};
-use ra_link::Settings;
+use ra_link_core::Settings;
 use ra_shake::ShakeSettings;
 use ra_sign::Keyed;
 use std::alloc::Global;

@@ -10,10 +10,10 @@ use Rattle.ra_session.specs.Turns.{TurnAnswer, turn_answer}
 use Rattle.ra_hub.specs.Hubs.{Hub}
 use Rattle.ra_hub.specs.Jobs.{SeenJob}
 use Rattle.ra_channel_laws.proofs.Lists.{all_back}
-use Rattle.ra_link.specs.HubEvents.{HubEvent, event_done, event_jobs, events_done, events_jobs}
-use Rattle.ra_link.specs.HubEvents.HubEvent.{Attach, Turn, Close}
-use Rattle.ra_link.specs.LinkRuns.{refused_by, Serving, Welcome, writes, does, closes, ends_by, Turned, turn_by, turn_ended, turn_in, turned, turned_again, turns_for, served, attached_by, attached_in}
-use Rattle.ra_link.proofs.GrowLemmas.{events_both}
+use Rattle.ra_link_core.specs.HubEvents.{HubEvent, event_done, event_jobs, events_done, events_jobs}
+use Rattle.ra_link_core.specs.HubEvents.HubEvent.{Attach, Turn, Close}
+use Rattle.ra_link_core.specs.LinkRuns.{refused_by, Serving, Welcome, writes, does, closes, ends_by, Turned, turn_by, turn_ended, turn_in, turned, turned_again, turns_for, served, attached_by, attached_in}
+use Rattle.ra_link_core.proofs.GrowLemmas.{events_both}
 use Rattle.ra_grand_laws.specs.ChannelParts.{ChannelsOf, WorkFits}
 use Rattle.ra_grand_laws.proofs.SeatTurns.{TurnStands, Comes, bad_admits, turned_stands, comes_nothing}
 use Rattle.ra_grand_laws.proofs.ServedAdmissions.{attaches_going}

@@ -14,8 +14,8 @@ use Rattle.ra_session.specs.SessionCalls.{lose_session}
 use Rattle.ra_session.specs.Sessions.{Session}
 use Rattle.ra_hub.specs.Hubs.{Hub, at_key, seat_lost}
 use Rattle.ra_hub.specs.Jobs.{SeenJob}
-use Rattle.ra_link.specs.HubEvents.{event_done, on_session}
-use Rattle.ra_link.specs.LinkRuns.{hub_left}
+use Rattle.ra_link_core.specs.HubEvents.{event_done, on_session}
+use Rattle.ra_link_core.specs.LinkRuns.{hub_left}
 use Rattle.ra_channel_laws.proofs.Silence.{silent_lose}
 use Rattle.ra_grand.specs.GrandClients.{GrandLink, Client}
 use Rattle.ra_grand.specs.Grands.{Grand, Found, changed, with_client, with_link}

@@ -6,7 +6,7 @@ use Rattle.ra_model.specs.Views.{View}
 use Rattle.ra_model.specs.Worlds.{Peer}
 use Rattle.ra_registry.specs.declared.row.Row.{Row}
 use Rattle.ra_session.specs.Sessions.{Session}
-use Rattle.ra_link.specs.LinkRuns.{Welcome}
+use Rattle.ra_link_core.specs.LinkRuns.{Welcome}
 use Rattle.ra_views.proofs.LinkTurns.{link_fed}
 use Rattle.ra_views.proofs.OtherLinks.{view_anew}
 use Rattle.ra_dial.specs.declared.stage.Stage.{Stage}

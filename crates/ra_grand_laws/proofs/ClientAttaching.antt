@@ -15,7 +15,7 @@ use Rattle.ra_session.specs.Sessions.{Session}
 use Rattle.ra_session.proofs.LinkLaws.{attach_on}
 use Rattle.ra_views.proofs.LinkTurns.{link_attached}
 use Rattle.ra_views.proofs.SessionNumbers.{number_attach}
-use Rattle.ra_link.specs.LinkRuns.{Welcome}
+use Rattle.ra_link_core.specs.LinkRuns.{Welcome}
 use Rattle.ra_dial.specs.declared.stage.Stage.TheVariants as stages
 use Rattle.ra_dial.specs.Acts.{quiet}
 use Rattle.ra_dial.specs.Attempts.{fails, rest_or_drop, next_attempt, wait_before}

@@ -13,7 +13,7 @@ use Rattle.ra_registry.specs.declared.row.Row.{Row}
 use Rattle.ra_registry.specs.Rows.{epoch_of}
 use Rattle.ra_session.specs.OnLinks.{IsRunning}
 use Rattle.ra_session.specs.Sessions.{Session}
-use Rattle.ra_link.specs.LinkRuns.{Welcome}
+use Rattle.ra_link_core.specs.LinkRuns.{Welcome}
 use Rattle.ra_dial.specs.declared.stage.Stage.{Stage}
 use Rattle.ra_dial.specs.declared.stage.Stage.TheVariants as stages
 use Rattle.ra_dial.specs.Attempts.{Step}

@@ -14,7 +14,7 @@ use Rattle.ra_session.specs.SessionRefusals.{Refusal, feed_refusal}
 use Rattle.ra_session.specs.Sessions.{Session}
 use Rattle.ra_views.proofs.LinkTurns.{link_fed}
 use Rattle.ra_views.proofs.SessionLinks.{link_feed, number_link}
-use Rattle.ra_link.specs.LinkRuns.{Welcome}
+use Rattle.ra_link_core.specs.LinkRuns.{Welcome}
 use Rattle.ra_dial.specs.declared.stage.Stage.{Stage}
 use Rattle.ra_dial.specs.declared.stage.Stage.TheVariants as stages
 use Rattle.ra_dial.specs.declared.values.DialEnd.TheVariants as dial_ends

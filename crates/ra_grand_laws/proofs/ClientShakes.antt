@@ -6,7 +6,7 @@ use Rattle.ra_model.specs.Views.{View}
 use Rattle.ra_registry.specs.declared.row.Row.{Row}
 use Rattle.ra_session.specs.OnLinks.{IsRunning}
 use Rattle.ra_session.specs.Sessions.{Session}
-use Rattle.ra_link.specs.LinkRuns.{Welcome}
+use Rattle.ra_link_core.specs.LinkRuns.{Welcome}
 use Rattle.ra_dial.specs.declared.stage.Stage.TheVariants as stages
 use Rattle.ra_dial.specs.Acts.{Act}
 use Rattle.ra_dial.specs.Dialers.{Dialer}

@@ -11,7 +11,7 @@ use Rattle.ra_model.proofs.EveryRun.{hears, keeps_unheard, writes_honestly, read
 use Rattle.ra_model.proofs.Sound.{turned}
 use Rattle.ra_registry.specs.declared.row.Row.{Row}
 use Rattle.ra_session.specs.Sessions.{Session}
-use Rattle.ra_link.specs.LinkRuns.{Welcome}
+use Rattle.ra_link_core.specs.LinkRuns.{Welcome}
 use Rattle.ra_grand.specs.GrandClients.{GrandLink, Client}
 use Rattle.ra_grand_laws.specs.Ends.{BothHear, text_up, text_down, read_up, read_down, LinkHonest, HoldsLink}
 use Rattle.ra_grand_laws.specs.Parts.{IsWelcome, HasWelcome, IsSeated, IsAttached, PartHolds}

@@ -7,7 +7,7 @@ use Rattle.ra_model.specs.Links.{at_number, amount, readable}
 use Rattle.ra_model.specs.Refusals.{or_fault}
 use Rattle.ra_values.specs.Tree.{Tree}
 use Rattle.ra_ipc.specs.ChannelPairs.{Outcome}
-use Rattle.ra_link.specs.LinkRuns.{Serving, End}
+use Rattle.ra_link_core.specs.LinkRuns.{Serving, End}
 use Rattle.ra_script.specs.GrandLines.{GrandEventFits}
 use Rattle.ra_script.specs.declared.grand_line.GrandEvent.{GrandEvent}
 use Rattle.ra_script.specs.declared.grand_line.GrandEvent.TheVariants as events

@@ -15,7 +15,7 @@ use Rattle.ra_items.specs.Heads.{Head, sized}
 use Rattle.ra_items.specs.Items.{items_by, items}
 use Rattle.ra_opening.specs.Openings.{Opened, new_opened, items_done, opened}
 use Rattle.ra_opening.specs.Verdicts.{refusal_bytes}
-use Rattle.ra_link.specs.LinkRuns.{Welcome}
+use Rattle.ra_link_core.specs.LinkRuns.{Welcome}
 use Rattle.ra_dial.specs.Clients.{Settings, request_of}
 use Rattle.ra_dial.specs.Dialers.{epoch}
 use Rattle.ra_grand.specs.Draws.{nth_draw, draws_after, first_draws}

@@ -23,7 +23,7 @@ use Rattle.ra_shake.specs.Texts.{accept_text, refuse_text, connection_text}
 use Rattle.ra_shake.proofs.MadeLemmas.{made_utf8}
 use Rattle.ra_shake.proofs.WholeLemmas.{client_first, client_last, client_refused}
 use Rattle.ra_opening.specs.Verdicts.{refusal_bytes, acceptance_bytes}
-use Rattle.ra_link.specs.LinkRuns.{Welcome, pause_bytes}
+use Rattle.ra_link_core.specs.LinkRuns.{Welcome, pause_bytes}
 use Rattle.ra_dial.specs.Clients.{request_of}
 use Rattle.ra_dial.specs.Handshakes.{Looked, in_frame, on_step, on_frames, on_answer}
 use Rattle.ra_dial.specs.ShakingStates.{ShakingState}

@@ -16,7 +16,7 @@ use Rattle.ra_shake.specs.Texts.{sign_text, accept_text, refuse_text}
 use Rattle.ra_shake.proofs.LengthLemmas.{sign_short, accept_short, refuse_short}
 use Rattle.ra_shake.proofs.MadeLemmas.{made_len}
 use Rattle.ra_opening.specs.Verdicts.{refusal_bytes, acceptance_bytes}
-use Rattle.ra_link.specs.LinkRuns.{Welcome, pause_bytes}
+use Rattle.ra_link_core.specs.LinkRuns.{Welcome, pause_bytes}
 use Rattle.ra_dial.specs.Handshakes.{in_frame}
 use Rattle.ra_grand.specs.SetUps.{secret}
 use Rattle.ra_grand_laws.specs.Handshakes.{greeting, Speaks}

@@ -4,7 +4,7 @@ use Rattle.ra_base.specs.declared.key.Key.{Key}
 use Rattle.ra_base.specs.declared.kind.Kind.TheVariants.{Tunnel}
 use Rattle.ra_upgrade.specs.AnswerTexts.{answer_text}
 use Rattle.ra_upgrade.specs.RequestTexts.{key_text}
-use Rattle.ra_link.specs.LinkRuns.{Welcome}
+use Rattle.ra_link_core.specs.LinkRuns.{Welcome}
 use Rattle.ra_dial.specs.Clients.{new_shaking, request_of}
 use Rattle.ra_dial.specs.Handshakes.{looked_at, fed}
 use Rattle.ra_dial.specs.ShakingStates.{ShakingState}

@@ -19,9 +19,9 @@ use Rattle.ra_session.specs.Sessions.{Session}
 use Rattle.ra_session.specs.Saying.{serving}
 use Rattle.ra_session.specs.Turns.{turn}
 use Rattle.ra_hub.specs.Hubs.{Hub, row, at_key, enter, entry_of, admitted, refused, seat_lost, seat_closed, with_end, closes}
-use Rattle.ra_link.specs.HubEvents.{event_done, judged_by, on_session}
-use Rattle.ra_link.specs.HubEvents.HubEvent.{Admit, Attach, Turn, Lose, Close}
-use Rattle.ra_link.specs.LinkRuns.{hub_left}
+use Rattle.ra_link_core.specs.HubEvents.{event_done, judged_by, on_session}
+use Rattle.ra_link_core.specs.HubEvents.HubEvent.{Admit, Attach, Turn, Lose, Close}
+use Rattle.ra_link_core.specs.LinkRuns.{hub_left}
 use Rattle.ra_grand_laws.specs.Handshakes.{request_for}
 use Rattle.ra_grand_laws.specs.KeptRows.{RowsAgree}
 use Rattle.ra_grand_laws.proofs.KeptRows.{KeepsEpochs, agree_itself, agree_trans, entry_agrees, other_entry_agrees, own_entry}

@@ -22,11 +22,11 @@ use Rattle.ra_session.specs.Turns.{turn}
 use Rattle.ra_hub.specs.Hubs.{Hub, row, enter, at_key, closes, admitted, refused, seat_lost, seat_closed}
 use Rattle.ra_hub.specs.Sweeps.{swept, grace_is_over}
 use Rattle.ra_ipc.specs.Messages.{Message}
-use Rattle.ra_link.specs.HubEvents.{HubEvent, judged_by, on_session, event_done, events_done}
-use Rattle.ra_link.specs.HubEvents.HubEvent.{Admit, Attach, Turn, Lose, Close}
-use Rattle.ra_link.specs.LinkRuns.{Piece, End, Serving, opening_by, piece_by, piece_done, turns_for, with_piece, hub_left}
-use Rattle.ra_link.specs.Makes.{Happens}
-use Rattle.ra_link.proofs.GrowLemmas.{grows_served, grows_asked}
+use Rattle.ra_link_core.specs.HubEvents.{HubEvent, judged_by, on_session, event_done, events_done}
+use Rattle.ra_link_core.specs.HubEvents.HubEvent.{Admit, Attach, Turn, Lose, Close}
+use Rattle.ra_link_core.specs.LinkRuns.{Piece, End, Serving, opening_by, piece_by, piece_done, turns_for, with_piece, hub_left}
+use Rattle.ra_link_core.specs.Makes.{Happens}
+use Rattle.ra_link_core.proofs.GrowLemmas.{grows_served, grows_asked}
 use Rattle.ra_grand.specs.GrandClients.{GrandLink}
 use Rattle.ra_grand.specs.Grands.{Grand}
 use Rattle.ra_grand.specs.GrandSweeps.{swept_hub}

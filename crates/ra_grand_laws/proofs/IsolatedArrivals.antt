@@ -13,7 +13,7 @@ use Rattle.ra_registry.specs.Rows.{same_key}
 use Rattle.ra_registry.proofs.SameKeys.{same_key_other_way}
 use Rattle.ra_hub.specs.Hubs.{Hub, row}
 use Rattle.ra_hub.specs.Jobs.{SeenJob}
-use Rattle.ra_link.specs.LinkRuns.{Serving, Welcome, hub_left}
+use Rattle.ra_link_core.specs.LinkRuns.{Serving, Welcome, hub_left}
 use Rattle.ra_script.specs.declared.grand_line.GrandEvent.{GrandEvent}
 use Rattle.ra_script.specs.declared.grand_line.GrandEvent.TheVariants as events
 use Rattle.ra_grand.specs.Draws.{draws_after, own_then, first_draws}

@@ -19,7 +19,7 @@ use Rattle.ra_upgrade.specs.declared.request_head.Upgrade.{Upgrade}
 use Rattle.ra_session.specs.Saying.{dialling}
 use Rattle.ra_session.specs.SessionRefusals.{Refusal, attach_refusal}
 use Rattle.ra_session.specs.Sessions.{Session}
-use Rattle.ra_link.specs.LinkRuns.{Welcome}
+use Rattle.ra_link_core.specs.LinkRuns.{Welcome}
 use Rattle.ra_views.specs.SessionLinks.{KeepsLink}
 use Rattle.ra_views.proofs.SessionLinks.{same_said_all}
 use Rattle.ra_dial.specs.declared.stage.Stage.{Stage}

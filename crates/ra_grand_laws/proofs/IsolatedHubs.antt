@@ -25,9 +25,9 @@ use Rattle.ra_session.specs.Turns.{turn}
 use Rattle.ra_hub.specs.Hubs.{Hub, row, enter, entry_of, at_key, admitted, refused, missed, seat_lost, seat_closed, closes}
 use Rattle.ra_hub.specs.OtherSessions.{IsSame}
 use Rattle.ra_hub.proofs.OthersLemmas.{others_called, others_lost, others_closed}
-use Rattle.ra_link.specs.HubEvents.{judged_by, on_session, event_done}
-use Rattle.ra_link.specs.HubEvents.HubEvent.{Admit, Attach, Turn, Lose, Close}
-use Rattle.ra_link.specs.LinkRuns.{hub_left}
+use Rattle.ra_link_core.specs.HubEvents.{judged_by, on_session, event_done}
+use Rattle.ra_link_core.specs.HubEvents.HubEvent.{Admit, Attach, Turn, Lose, Close}
+use Rattle.ra_link_core.specs.LinkRuns.{hub_left}
 
 -- a registry without its history
 abbrev pub bare : RegistryState → RegistryState

@@ -12,7 +12,7 @@ use Rattle.ra_session.specs.Sessions.{Session}
 use Rattle.ra_session.specs.TurnRefusals.{turn_refusal}
 use Rattle.ra_session.specs.Turns.{TurnAnswer, turn_answer}
 use Rattle.ra_hub.specs.Jobs.{SeenJob}
-use Rattle.ra_link.specs.HubEvents.{jobs_of, turn_jobs, session_jobs}
+use Rattle.ra_link_core.specs.HubEvents.{jobs_of, turn_jobs, session_jobs}
 use Rattle.ra_grand_laws.specs.Isolation.{jobs_for}
 use Rattle.ra_grand_laws.proofs.Lists.{none_there, there_is}
 

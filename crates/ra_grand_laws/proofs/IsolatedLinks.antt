@@ -9,7 +9,7 @@ use Rattle.ra_model.specs.Links.{at_number, read_on, written_to, cut_off}
 use Rattle.ra_registry.specs.Rows.{same_key}
 use Rattle.ra_registry.proofs.SameKeys.{same_key_other_way}
 use Rattle.ra_hub.specs.Hubs.{row}
-use Rattle.ra_link.specs.LinkRuns.{hub_left}
+use Rattle.ra_link_core.specs.LinkRuns.{hub_left}
 use Rattle.ra_dial.specs.declared.values.DialEvent.TheVariants as dial_events
 use Rattle.ra_script.specs.declared.grand_line.GrandEvent.TheVariants as events
 use Rattle.ra_grand.specs.Draws.{first_draws}

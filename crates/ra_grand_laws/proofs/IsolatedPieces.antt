@@ -14,9 +14,9 @@ use Rattle.ra_session.specs.TurnRefusals.{turn_refusal}
 use Rattle.ra_session.specs.Turns.{TurnAnswer, turn_answer}
 use Rattle.ra_hub.specs.Hubs.{row}
 use Rattle.ra_hub.specs.Jobs.{SeenJob}
-use Rattle.ra_link.specs.HubEvents.{HubEvent, event_done, event_jobs, session_jobs}
-use Rattle.ra_link.specs.HubEvents.HubEvent.{Admit, Attach, Turn, Close}
-use Rattle.ra_link.specs.LinkRuns.{Serving, Welcome, End, request_refused, refused_by, Turned, writes, does, closes, ends_by, turn_refused, turn_ended, turn_made, turn_by, turn_in, turned, turned_again, turns_for, served, attached_by, attached_in, attached, pause_bytes, welcomed, asked_by, asked}
+use Rattle.ra_link_core.specs.HubEvents.{HubEvent, event_done, event_jobs, session_jobs}
+use Rattle.ra_link_core.specs.HubEvents.HubEvent.{Admit, Attach, Turn, Close}
+use Rattle.ra_link_core.specs.LinkRuns.{Serving, Welcome, End, request_refused, refused_by, Turned, writes, does, closes, ends_by, turn_refused, turn_ended, turn_made, turn_by, turn_in, turned, turned_again, turns_for, served, attached_by, attached_in, attached, pause_bytes, welcomed, asked_by, asked}
 use Rattle.ra_grand_laws.specs.Isolation.{jobs_for}
 use Rattle.ra_grand_laws.proofs.IsolatedHubs.{Agree, IsOf, agree_admit, agree_attach, agree_turn, agree_close, same_answer, same_seat}
 use Rattle.ra_grand_laws.proofs.IsolatedJobs.{jobs_both, own_jobs}

@@ -14,8 +14,8 @@ use Rattle.ra_opening.specs.Openings.{Opened, opened, Stage}
 use Rattle.ra_opening.specs.Openings.Stage.{Heading, Shaking, Asked, Over}
 use Rattle.ra_hub.specs.Hubs.{Hub, row}
 use Rattle.ra_hub.specs.Jobs.{SeenJob}
-use Rattle.ra_link.specs.LinkRuns.{Serving, Welcome, served as served_by, asked, opening_by, opening_came, with_piece, turns_for, piece_by, piece_done}
-use Rattle.ra_link.proofs.GrowLemmas.{grows_asked}
+use Rattle.ra_link_core.specs.LinkRuns.{Serving, Welcome, served as served_by, asked, opening_by, opening_came, with_piece, turns_for, piece_by, piece_done}
+use Rattle.ra_link_core.proofs.GrowLemmas.{grows_asked}
 use Rattle.ra_grand.specs.Draws.{draws_after, own_then}
 use Rattle.ra_grand.specs.GrandClients.{GrandLink, Client}
 use Rattle.ra_grand.specs.Grands.{Grand}

@@ -20,9 +20,9 @@ use Rattle.ra_session.specs.TurnRefusals.{turn_refusal}
 use Rattle.ra_session.specs.Turns.{TurnAnswer, turn_answer}
 use Rattle.ra_hub.specs.Hubs.{Hub, row}
 use Rattle.ra_hub.specs.Jobs.{SeenJob}
-use Rattle.ra_link.specs.HubEvents.{HubEvent, event_done, event_jobs}
-use Rattle.ra_link.specs.HubEvents.HubEvent.{Admit, Attach, Turn, Close}
-use Rattle.ra_link.specs.LinkRuns.{Serving, End, refused_by, Turned, writes, does, closes, ends_by, turn_refused, turn_ended, turn_made, turn_by, turn_in, turned, turned_again, turns_for, served, attached_by, attached_in, attached, welcomed, asked_by, asked}
+use Rattle.ra_link_core.specs.HubEvents.{HubEvent, event_done, event_jobs}
+use Rattle.ra_link_core.specs.HubEvents.HubEvent.{Admit, Attach, Turn, Close}
+use Rattle.ra_link_core.specs.LinkRuns.{Serving, End, refused_by, Turned, writes, does, closes, ends_by, turn_refused, turn_ended, turn_made, turn_by, turn_in, turned, turned_again, turns_for, served, attached_by, attached_in, attached, welcomed, asked_by, asked}
 use Rattle.ra_grand_laws.specs.Isolation.{is_admit, jobs_for}
 use Rattle.ra_grand_laws.proofs.IsolatedHubs.{bare, Agree, Shortens, IsOf, other_admit, other_attach, other_turn, other_close}
 use Rattle.ra_grand_laws.proofs.IsolatedJobs.{jobs_both, other_jobs}

@@ -7,7 +7,7 @@ use Rattle.ra_model.specs.Pairs.{messages}
 use Rattle.ra_registry.specs.declared.row.Row.{Row}
 use Rattle.ra_session.specs.Sessions.{Session}
 use Rattle.ra_hub.specs.Hubs.{row}
-use Rattle.ra_link.specs.LinkRuns.{Welcome}
+use Rattle.ra_link_core.specs.LinkRuns.{Welcome}
 use Rattle.ra_dial.specs.declared.stage.Stage.{Stage}
 use Rattle.ra_dial.specs.declared.stage.Stage.TheVariants as stages
 use Rattle.ra_grand.specs.GrandClients.{GrandLink, Client}

@@ -22,9 +22,9 @@ use Rattle.ra_views.specs.SessionViews.{SessionOnlyGrows}
 use Rattle.ra_views.proofs.SessionsRise.{rises_call, rises_listen, rises_cancel, rises_dispose, rises_answer, rises_say}
 use Rattle.ra_hub.specs.Hubs.{Hub, row}
 use Rattle.ra_hub.specs.Jobs.{SeenJob}
-use Rattle.ra_link.specs.LinkRuns.{Piece, End, Serving, opening_by, piece_by, piece_done, turns_for, with_piece, hub_left}
-use Rattle.ra_link.specs.Makes.{Happens}
-use Rattle.ra_link.proofs.GrowLemmas.{grows_served, grows_asked}
+use Rattle.ra_link_core.specs.LinkRuns.{Piece, End, Serving, opening_by, piece_by, piece_done, turns_for, with_piece, hub_left}
+use Rattle.ra_link_core.specs.Makes.{Happens}
+use Rattle.ra_link_core.proofs.GrowLemmas.{grows_served, grows_asked}
 use Rattle.ra_dial.specs.declared.values.DialEvent.{DialEvent}
 use Rattle.ra_dial.specs.declared.values.DialEvent.TheVariants as dial_events
 use Rattle.ra_script.specs.declared.grand_line.GrandEvent.{GrandEvent}

@@ -28,9 +28,9 @@ use Rattle.ra_views.specs.SessionViews.{SessionOnlyGrows}
 use Rattle.ra_views.proofs.SessionsRise.{rises_tick, rises_lose, rises_end, rises_attach, rises_turn}
 use Rattle.ra_hub.specs.Hubs.{Hub, row, enter, entry_of, at_key, closes, admitted, refused, missed, seat_lost, seat_closed}
 use Rattle.ra_hub.specs.Sweeps.{swept, tick_one, grace_is_over}
-use Rattle.ra_link.specs.HubEvents.{HubEvent, judged_by, on_session, event_done, events_done}
-use Rattle.ra_link.specs.HubEvents.HubEvent.{Admit, Attach, Turn, Lose, Close}
-use Rattle.ra_link.specs.LinkRuns.{hub_left}
+use Rattle.ra_link_core.specs.HubEvents.{HubEvent, judged_by, on_session, event_done, events_done}
+use Rattle.ra_link_core.specs.HubEvents.HubEvent.{Admit, Attach, Turn, Lose, Close}
+use Rattle.ra_link_core.specs.LinkRuns.{hub_left}
 use Rattle.ra_grand.specs.GrandSweeps.{swept_hub}
 use Rattle.ra_grand_laws.specs.KeptRows.{RowsAgree}
 use Rattle.ra_grand_laws.specs.Rising.{HubRises}

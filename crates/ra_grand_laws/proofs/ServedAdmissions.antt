@@ -22,8 +22,8 @@ use Rattle.ra_session.specs.Sessions.{Session}
 use Rattle.ra_shake.specs.Made.{made_text}
 use Rattle.ra_opening.specs.Verdicts.{refusal_bytes, acceptance_bytes}
 use Rattle.ra_hub.specs.Hubs.{Hub, row}
-use Rattle.ra_link.specs.HubEvents.HubEvent.{Admit, Attach}
-use Rattle.ra_link.specs.LinkRuns.{request_refused, refused_by, Serving, Welcome, writes, does, ends_by, turns_for, attached_by, attached_in, attached, pause_bytes, welcomed, asked_by, asked}
+use Rattle.ra_link_core.specs.HubEvents.HubEvent.{Admit, Attach}
+use Rattle.ra_link_core.specs.LinkRuns.{request_refused, refused_by, Serving, Welcome, writes, does, ends_by, turns_for, attached_by, attached_in, attached, pause_bytes, welcomed, asked_by, asked}
 use Rattle.ra_views.specs.SessionViews.{link_with}
 use Rattle.ra_grand.specs.GrandClients.{GrandLink}
 use Rattle.ra_grand.specs.Reached.{Begins}

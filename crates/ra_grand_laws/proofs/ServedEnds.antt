@@ -23,9 +23,9 @@ use Rattle.ra_session.specs.SessionCalls.{lose_session}
 use Rattle.ra_session.specs.Sessions.{Session}
 use Rattle.ra_hub.specs.Hubs.{Hub, row, refused}
 use Rattle.ra_channel_laws.proofs.Silence.{silent_lose}
-use Rattle.ra_link.specs.HubEvents.{event_done, event_jobs, judged_by}
-use Rattle.ra_link.specs.HubEvents.HubEvent.{Admit, Lose}
-use Rattle.ra_link.specs.LinkRuns.{request_refused, Serving, Welcome, writes, does, ends_by, attached, asked_by, asked, opening_by, opening_came, with_piece, piece_by, piece_done, turns_for, hub_left, served as served_by}
+use Rattle.ra_link_core.specs.HubEvents.{event_done, event_jobs, judged_by}
+use Rattle.ra_link_core.specs.HubEvents.HubEvent.{Admit, Lose}
+use Rattle.ra_link_core.specs.LinkRuns.{request_refused, Serving, Welcome, writes, does, ends_by, attached, asked_by, asked, opening_by, opening_came, with_piece, piece_by, piece_done, turns_for, hub_left, served as served_by}
 use Rattle.ra_grand.specs.Draws.{draws_after, own_then}
 use Rattle.ra_grand.specs.Grands.{Grand, Found}
 use Rattle.ra_grand.specs.Marks.{whole}

@@ -19,7 +19,7 @@ use Rattle.ra_session.specs.Saying.{serving}
 use Rattle.ra_session.specs.Sessions.{Session}
 use Rattle.ra_views.specs.SessionViews.{link_with}
 use Rattle.ra_views.proofs.OtherLinks.{view_made, view_anew}
-use Rattle.ra_link.specs.LinkRuns.{Welcome}
+use Rattle.ra_link_core.specs.LinkRuns.{Welcome}
 use Rattle.ra_grand.specs.GrandClients.{GrandLink}
 use Rattle.ra_grand_laws.specs.KeptRows.{RowsAgree}
 use Rattle.ra_grand_laws.specs.Parts.{HasWelcome, IsWelcome, LinkKeeps, IsServer, WritesWhole}

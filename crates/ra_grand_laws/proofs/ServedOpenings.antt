@@ -23,7 +23,7 @@ use Rattle.ra_opening.specs.Verdicts.{refusal_bytes}
 use Rattle.ra_opening.proofs.LawLemmas.{written_stays}
 use Rattle.ra_dial.specs.Handshakes.{in_frame}
 use Rattle.ra_hub.specs.Hubs.{Hub, row}
-use Rattle.ra_link.specs.LinkRuns.{Serving, Welcome, asked, opening_by, opening_came}
+use Rattle.ra_link_core.specs.LinkRuns.{Serving, Welcome, asked, opening_by, opening_came}
 use Rattle.ra_grand.specs.Draws.{own_then, first_draws}
 use Rattle.ra_grand.specs.GrandClients.{GrandLink}
 use Rattle.ra_grand.specs.SetUps.{secret, grounds}

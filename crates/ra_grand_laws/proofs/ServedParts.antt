@@ -13,7 +13,7 @@ use Rattle.ra_registry.specs.declared.row.Row.{Row}
 use Rattle.ra_hub.specs.Hubs.{row}
 use Rattle.ra_opening.specs.Openings.{opened}
 use Rattle.ra_session.specs.Sessions.{Session}
-use Rattle.ra_link.specs.LinkRuns.{Serving, with_piece, piece_by, piece_done, opening_came, turns_for, served as served_by}
+use Rattle.ra_link_core.specs.LinkRuns.{Serving, with_piece, piece_by, piece_done, opening_came, turns_for, served as served_by}
 use Rattle.ra_grand.specs.Draws.{draws_after}
 use Rattle.ra_grand.specs.GrandClients.{GrandLink}
 use Rattle.ra_grand.specs.Grands.{Grand, Found, with_link}

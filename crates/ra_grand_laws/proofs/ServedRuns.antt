@@ -8,9 +8,9 @@ use Rattle.ra_model.specs.Links.{read_on, written_to}
 use Rattle.ra_registry.specs.declared.row.Row.{Row}
 use Rattle.ra_session.specs.Sessions.{Session}
 use Rattle.ra_hub.specs.Hubs.{Hub, row}
-use Rattle.ra_link.specs.HubEvents.{event_done}
-use Rattle.ra_link.specs.HubEvents.HubEvent.{Close}
-use Rattle.ra_link.specs.LinkRuns.{End, Serving, Welcome, closes, ends_by, hub_left}
+use Rattle.ra_link_core.specs.HubEvents.{event_done}
+use Rattle.ra_link_core.specs.HubEvents.HubEvent.{Close}
+use Rattle.ra_link_core.specs.LinkRuns.{End, Serving, Welcome, closes, ends_by, hub_left}
 use Rattle.ra_grand.specs.GrandClients.{GrandLink}
 use Rattle.ra_grand.specs.Reached.{Begins}
 use Rattle.ra_grand.specs.ServedLinks.{left, end_after}

@@ -26,7 +26,7 @@ use Rattle.ra_views.proofs.LinkTurns.{link_attached, link_turned}
 use Rattle.ra_views.proofs.SessionNumbers.{number_turn, number_attach}
 use Rattle.ra_views.proofs.SessionsRise.{rises_turn, rises_attach}
 use Rattle.ra_opening.specs.Verdicts.{acceptance_bytes}
-use Rattle.ra_link.specs.LinkRuns.{Welcome}
+use Rattle.ra_link_core.specs.LinkRuns.{Welcome}
 use Rattle.ra_grand.specs.GrandClients.{GrandLink}
 use Rattle.ra_grand.specs.Reached.{Agrees}
 use Rattle.ra_grand_laws.specs.Handshakes.{greeting, Speaks}

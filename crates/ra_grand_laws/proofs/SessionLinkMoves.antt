@@ -9,7 +9,7 @@ use Rattle.ra_model.specs.Links.{Link, at_number, put_number, readable, read_on,
 use Rattle.ra_model.specs.Pairs.{messages, IsJoining}
 use Rattle.ra_model.specs.Worlds.{Peer}
 use Rattle.ra_model.proofs.Numbers.{put_cases, put_same, put_other}
-use Rattle.ra_link.specs.LinkRuns.{Welcome}
+use Rattle.ra_link_core.specs.LinkRuns.{Welcome}
 use Rattle.ra_grand.specs.GrandClients.{GrandLink, writes_up}
 use Rattle.ra_grand.specs.Reached.{Begins, read_of}
 use Rattle.ra_grand_laws.specs.Handshakes.{client_text}

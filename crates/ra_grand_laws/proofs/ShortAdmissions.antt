@@ -14,11 +14,11 @@ use Rattle.ra_session.specs.SessionRefusals.{Refusal, attach_refusal}
 use Rattle.ra_session.specs.Sessions.{Session}
 use Rattle.ra_opening.specs.Verdicts.{refusal_bytes, acceptance_bytes}
 use Rattle.ra_hub.specs.Hubs.{Hub, row}
-use Rattle.ra_link.specs.HubEvents.{HubEvent, event_bytes, events_done, events_bytes, admission_bytes, seat_judged_by, seats_by}
-use Rattle.ra_link.specs.HubEvents.HubEvent.{Admit, Attach}
-use Rattle.ra_link.specs.LinkRuns.{request_refused, refused_by, Serving, Welcome, writes, does, ends_by, turns_for, attached_by, attached_in, attached, asked_by, asked}
-use Rattle.ra_link.specs.Makes.{Writes}
-use Rattle.ra_link.proofs.GrowLemmas.{writes_trans, writes_same, writes_refl}
+use Rattle.ra_link_core.specs.HubEvents.{HubEvent, event_bytes, events_done, events_bytes, admission_bytes, seat_judged_by, seats_by}
+use Rattle.ra_link_core.specs.HubEvents.HubEvent.{Admit, Attach}
+use Rattle.ra_link_core.specs.LinkRuns.{request_refused, refused_by, Serving, Welcome, writes, does, ends_by, turns_for, attached_by, attached_in, attached, asked_by, asked}
+use Rattle.ra_link_core.specs.Makes.{Writes}
+use Rattle.ra_link_core.proofs.GrowLemmas.{writes_trans, writes_same, writes_refl}
 use Rattle.ra_grand.specs.GrandClients.{GrandLink}
 use Rattle.ra_grand_laws.specs.Handshakes.{request_for, Speaks}
 use Rattle.ra_grand_laws.proofs.HubMoves.{HubMoves, others_trans, same_hub, attached_hub, next_is}

@@ -17,9 +17,9 @@ use Rattle.ra_opening.specs.Openings.Stage.{Heading, Shaking, Asked, Over}
 use Rattle.ra_opening.specs.Verdicts.{refusal_bytes}
 use Rattle.ra_hub.specs.Hubs.{Hub, row}
 use Rattle.ra_hub.specs.Jobs.{SeenJob}
-use Rattle.ra_link.specs.HubEvents.{HubEvent, events_done, events_jobs, seats_by}
-use Rattle.ra_link.specs.HubEvents.HubEvent.{Admit}
-use Rattle.ra_link.specs.LinkRuns.{request_refused, Serving, Welcome, writes, does, ends_by, attached, asked_by, asked, opening_by, opening_came, with_piece, piece_by, piece_done, turns_for, hub_left, served as served_by}
+use Rattle.ra_link_core.specs.HubEvents.{HubEvent, events_done, events_jobs, seats_by}
+use Rattle.ra_link_core.specs.HubEvents.HubEvent.{Admit}
+use Rattle.ra_link_core.specs.LinkRuns.{request_refused, Serving, Welcome, writes, does, ends_by, attached, asked_by, asked, opening_by, opening_came, with_piece, piece_by, piece_done, turns_for, hub_left, served as served_by}
 use Rattle.ra_grand.specs.Draws.{draws_after, own_then}
 use Rattle.ra_grand.specs.Grands.{Grand, Found}
 use Rattle.ra_grand.specs.Marks.{short}

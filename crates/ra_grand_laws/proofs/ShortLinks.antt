@@ -15,7 +15,7 @@ use Rattle.ra_model.proofs.Sound.{turned}
 use Rattle.ra_registry.specs.declared.row.Row.{Row}
 use Rattle.ra_session.specs.Sessions.{Session}
 use Rattle.ra_hub.specs.Hubs.{Hub, row}
-use Rattle.ra_link.specs.LinkRuns.{Serving, Welcome}
+use Rattle.ra_link_core.specs.LinkRuns.{Serving, Welcome}
 use Rattle.ra_grand.specs.GrandClients.{GrandLink}
 use Rattle.ra_grand.specs.Reached.{Begins}
 use Rattle.ra_grand_laws.specs.Handshakes.{Speaks}

@@ -11,9 +11,9 @@ use Rattle.ra_shake.specs.Made.{made_text}
 use Rattle.ra_opening.specs.Openings.{opened, Stage}
 use Rattle.ra_opening.specs.Openings.Stage.{Heading, Shaking, Asked, Over}
 use Rattle.ra_hub.specs.Hubs.{Hub, row}
-use Rattle.ra_link.specs.LinkRuns.{Serving, with_piece, piece_by, piece_done, turns_for, asked, opening_end, opening_by, opening_came, served as served_by}
-use Rattle.ra_link.specs.Makes.{Writes}
-use Rattle.ra_link.proofs.GrowLemmas.{writes_same, writes_refl}
+use Rattle.ra_link_core.specs.LinkRuns.{Serving, with_piece, piece_by, piece_done, turns_for, asked, opening_end, opening_by, opening_came, served as served_by}
+use Rattle.ra_link_core.specs.Makes.{Writes}
+use Rattle.ra_link_core.proofs.GrowLemmas.{writes_same, writes_refl}
 use Rattle.ra_grand.specs.Draws.{draws_after, own_then}
 use Rattle.ra_grand.specs.GrandClients.{GrandLink}
 use Rattle.ra_grand.specs.Grands.{Grand}

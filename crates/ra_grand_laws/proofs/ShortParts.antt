@@ -6,8 +6,8 @@ use Rattle.ra_base.specs.declared.event.Side.TheVariants.{B}
 use Rattle.ra_base.specs.declared.key.Seat.{Seat}
 use Rattle.ra_model.specs.Links.{Link, at_number, readable}
 use Rattle.ra_hub.specs.Hubs.{Hub, row}
-use Rattle.ra_link.specs.HubEvents.{HubEvent, events_bytes, events_done}
-use Rattle.ra_link.specs.LinkRuns.{Serving, Welcome, hub_left}
+use Rattle.ra_link_core.specs.HubEvents.{HubEvent, events_bytes, events_done}
+use Rattle.ra_link_core.specs.LinkRuns.{Serving, Welcome, hub_left}
 use Rattle.ra_grand.specs.Fits.{IsPart}
 use Rattle.ra_grand.specs.GrandClients.{GrandLink}
 use Rattle.ra_grand.specs.Grands.{Grand, Found, with_link}

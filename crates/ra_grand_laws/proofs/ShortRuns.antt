@@ -10,11 +10,11 @@ use Rattle.ra_session.specs.SessionRefusals.{bad_ipc}
 use Rattle.ra_session.specs.SessionCalls.{lose_session, end_session}
 use Rattle.ra_session.specs.Sessions.{Session}
 use Rattle.ra_hub.specs.Hubs.{Hub, row, closes as row_closes, seat_lost, seat_closed}
-use Rattle.ra_link.specs.HubEvents.{HubEvent, event_done, event_jobs, event_bytes, seat_by, on_session}
-use Rattle.ra_link.specs.HubEvents.HubEvent.{Lose, Close}
-use Rattle.ra_link.specs.LinkRuns.{End, refused_by, Serving, Welcome, does, hub_left}
-use Rattle.ra_link.specs.Makes.{Writes}
-use Rattle.ra_link.proofs.GrowLemmas.{writes_trans, writes_refl}
+use Rattle.ra_link_core.specs.HubEvents.{HubEvent, event_done, event_jobs, event_bytes, seat_by, on_session}
+use Rattle.ra_link_core.specs.HubEvents.HubEvent.{Lose, Close}
+use Rattle.ra_link_core.specs.LinkRuns.{End, refused_by, Serving, Welcome, does, hub_left}
+use Rattle.ra_link_core.specs.Makes.{Writes}
+use Rattle.ra_link_core.proofs.GrowLemmas.{writes_trans, writes_refl}
 use Rattle.ra_grand.specs.ServedLinks.{left}
 use Rattle.ra_grand_laws.proofs.HubMoves.{lost_by, closed_by}
 use Rattle.ra_grand_laws.proofs.ServedFocus.{Ground}

@@ -12,11 +12,11 @@ use Rattle.ra_session.specs.Sessions.{Session}
 use Rattle.ra_session.specs.TurnRefusals.{turn_refusal}
 use Rattle.ra_session.specs.Turns.{TurnAnswer, turn, turn_answer}
 use Rattle.ra_hub.specs.Hubs.{Hub, row, closes as row_closes}
-use Rattle.ra_link.specs.HubEvents.{HubEvent, event_bytes, session_bytes, turn_bytes}
-use Rattle.ra_link.specs.HubEvents.HubEvent.{Turn, Close}
-use Rattle.ra_link.specs.LinkRuns.{End, refused_by, Serving, writes, does, closes, ends_by, Turned, stops, turn_by, turn_ended, turn_in, turned, turned_again, served}
-use Rattle.ra_link.specs.Makes.{Writes}
-use Rattle.ra_link.proofs.GrowLemmas.{writes_same, writes_refl}
+use Rattle.ra_link_core.specs.HubEvents.{HubEvent, event_bytes, session_bytes, turn_bytes}
+use Rattle.ra_link_core.specs.HubEvents.HubEvent.{Turn, Close}
+use Rattle.ra_link_core.specs.LinkRuns.{End, refused_by, Serving, writes, does, closes, ends_by, Turned, stops, turn_by, turn_ended, turn_in, turned, turned_again, served}
+use Rattle.ra_link_core.specs.Makes.{Writes}
+use Rattle.ra_link_core.proofs.GrowLemmas.{writes_same, writes_refl}
 use Rattle.ra_grand.specs.ServedLinks.{left}
 use Rattle.ra_grand_laws.proofs.HubMoves.{IsOwn, turned_hub}
 use Rattle.ra_grand_laws.proofs.ServedFocus.{Ground}

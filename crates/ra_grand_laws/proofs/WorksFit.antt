@@ -27,7 +27,7 @@ use Rattle.ra_session.specs.Hearing.{Happening, work, host, call_settled, event_
 use Rattle.ra_session.specs.Sessions.{Session, is_management}
 use Rattle.ra_session.specs.Turns.{heard_at, happening_in, happening_of}
 use Rattle.ra_hub.specs.Jobs.{SeenJob}
-use Rattle.ra_link.specs.HubEvents.{jobs_of}
+use Rattle.ra_link_core.specs.HubEvents.{jobs_of}
 use Rattle.ra_channel_laws.specs.Channels.{ChannelsHold}
 use Rattle.ra_channel_laws.proofs.Coming.{next_said}
 use Rattle.ra_channel_laws.proofs.Lists.{OfSome}

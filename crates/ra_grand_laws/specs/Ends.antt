@@ -4,7 +4,7 @@ use Rattle.ra_model.specs.Endpoints.{is_linked}
 use Rattle.ra_model.specs.Frames.{joined}
 use Rattle.ra_model.specs.Pairs.{messages, IsJoining, IsFront, HearsInOrder, KeepsUnheard}
 use Rattle.ra_model.specs.Worlds.{Peer}
-use Rattle.ra_link.specs.LinkRuns.{Welcome}
+use Rattle.ra_link_core.specs.LinkRuns.{Welcome}
 use Rattle.ra_grand.specs.GrandClients.{GrandLink}
 use Rattle.ra_grand.specs.Reached.{read_of}
 

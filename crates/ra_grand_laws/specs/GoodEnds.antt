@@ -1,6 +1,6 @@
 -- The ends that a link can come to at the server, where its client is one of the run.
 use Rattle.std.specs.Prelude.{Option, Some, None, ⊤}
-use Rattle.ra_link.specs.LinkRuns.{End, head_refused, request_refused, refused_by}
+use Rattle.ra_link_core.specs.LinkRuns.{End, head_refused, request_refused, refused_by}
 use Rattle.ra_session.specs.SessionRefusals.{ended, stale, no_link, too_long, bad_ipc, too_large, ids_spent, no_such_call, wrong_kind}
 
 -- no header states too long a body, and no message is bad

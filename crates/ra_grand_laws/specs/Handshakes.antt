@@ -17,7 +17,7 @@ use Rattle.ra_opening.specs.declared.ends.OpeningEnd.TheVariants as opening_ends
 use Rattle.ra_opening.specs.Openings.{Opened, Stage}
 use Rattle.ra_opening.specs.Openings.Stage.{Heading, Shaking, Asked, Over}
 use Rattle.ra_opening.specs.Verdicts.{refusal_bytes, acceptance_bytes}
-use Rattle.ra_link.specs.LinkRuns.{Welcome, pause_bytes}
+use Rattle.ra_link_core.specs.LinkRuns.{Welcome, pause_bytes}
 use Rattle.ra_dial.specs.Clients.{request_of}
 use Rattle.ra_dial.specs.Handshakes.{Look, is_open, goes_on, fails, refuses, accepts, in_frame}
 use Rattle.ra_dial.specs.ShakingStates.{ShakingState}

@@ -9,9 +9,9 @@ use Rattle.ra_registry.specs.declared.past.Did.TheVariants.{Refused}
 use Rattle.ra_registry.specs.Rows.{same_key}
 use Rattle.ra_hub.specs.Hubs.{enter, entry_of}
 use Rattle.ra_hub.specs.Jobs.{SeenJob}
-use Rattle.ra_link.specs.HubEvents.{HubEvent}
-use Rattle.ra_link.specs.HubEvents.HubEvent.{Admit, Attach, Turn, Lose, Close}
-use Rattle.ra_link.specs.LinkRuns.{Serving, piece_done}
+use Rattle.ra_link_core.specs.HubEvents.{HubEvent}
+use Rattle.ra_link_core.specs.HubEvents.HubEvent.{Admit, Attach, Turn, Lose, Close}
+use Rattle.ra_link_core.specs.LinkRuns.{Serving, piece_done}
 use Rattle.ra_script.specs.declared.grand_line.GrandEvent.{GrandEvent}
 use Rattle.ra_script.specs.declared.grand_line.GrandEvent.TheVariants as events
 use Rattle.ra_grand.specs.Draws.{own_then, draws_after, first_draws}

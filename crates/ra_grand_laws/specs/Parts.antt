@@ -19,7 +19,7 @@ use Rattle.ra_opening.specs.Openings.{Opened, opened, Stage as OpeningStage}
 use Rattle.ra_opening.specs.Openings.Stage.{Heading, Shaking, Asked, Over}
 use Rattle.ra_session.specs.OnLinks.{IsOnLink, IsRunning}
 use Rattle.ra_session.specs.Sessions.{Session}
-use Rattle.ra_link.specs.LinkRuns.{Welcome}
+use Rattle.ra_link_core.specs.LinkRuns.{Welcome}
 use Rattle.ra_dial.specs.declared.stage.Stage.{Stage}
 use Rattle.ra_dial.specs.declared.stage.Stage.TheVariants as stages
 use Rattle.ra_dial.specs.Dialers.{epoch}

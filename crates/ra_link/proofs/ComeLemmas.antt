@@ -7,11 +7,11 @@ use Rattle.ra_items.specs.Heads.{Head}
 use Rattle.ra_ports.specs.Links.{Incoming, Takes}
 use Rattle.ra_upgrade.specs.declared.request_head.HeadFault.{HeadFault}
 use Rattle.ra_upgrade.specs.declared.request_head.Upgrade.{Upgrade}
-use Rattle.ra_link.specs.LinkRuns.{Piece, asks_framing, with_piece}
+use Rattle.ra_link_core.specs.LinkRuns.{Piece, asks_framing, with_piece}
 use Rattle.ra_link.specs.Pieces.{bytes_of, counted, is_framed, IsFrontOf, ComeUnframed, ComeFramed, ComeBy, Come}
 use Rattle.ra_link.specs.Served.{FramesBy, UnableBy}
 use Rattle.ra_link.specs.declared.ends.LinkEnd.{LinkEnd}
-use Rattle.ra_link.proofs.CutLemmas.{with_by}
+use Rattle.ra_link_core.proofs.CutLemmas.{with_by, still_judged, with_behind, behind_counts}
 
 -- ---- lists of pieces
 
@@ -63,19 +63,6 @@ not_yet true false is = absurd cc
 
 pub open_unframed : (head : Head Upgrade HeadFault) (text : List ℕ) → nat_lt (length text) head.size ≡ true → is_framed head text ≡ false
 open_unframed head text early = not_yet (asks_framing head.says) (nat_lt (length text) head.size) early
-
-pub still_judged : (head : Head Upgrade HeadFault) (text more : List ℕ) → nat_lt (length text) head.size ≡ false → nat_lt (length (text ++ more)) head.size ≡ false
-still_judged head text more judged =
-    let within : head.size ≤ length text = ltb-false (length text) head.size judged in
-    le-ltb (length (text ++ more)) head.size (omega (arith, within, length-append text more))
-
--- behind the head each piece counts whole
-pub with_behind : (a : Bool) (head : Head Upgrade HeadFault) (text piece : List ℕ) → asks_framing head.says ≡ a → nat_lt (length text) head.size ≡ false → with_piece head text piece ≡ text ++ piece
-with_behind false head text piece asks judged = with_by false false head text piece asks judged
-with_behind true head text piece asks judged = with_by true false head text piece asks judged
-
-pub behind_counts : (head : Head Upgrade HeadFault) (text piece : List ℕ) → nat_lt (length text) head.size ≡ false → with_piece head text piece ≡ text ++ piece
-behind_counts head text piece judged = with_behind (asks_framing head.says) head text piece refl judged
 
 cut_size : (head : Head Upgrade HeadFault) (raw : List ℕ) → nat_lt (length raw) head.size ≡ false → length (take head.size raw) ≡ head.size
 cut_size head raw judged = length-take-le head.size raw (ltb-false (length raw) head.size judged)

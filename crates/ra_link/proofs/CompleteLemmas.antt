@@ -6,7 +6,7 @@ use Rattle.ra_ports.specs.Causes.{Rose}
 use Rattle.ra_ports.specs.Links.{Incoming}
 use Rattle.ra_hub.specs.Hubs.{Hub}
 use Rattle.ra_hub.specs.Jobs.{SeenJob}
-use Rattle.ra_link.specs.LinkRuns.{Serving, link_run, hub_left}
+use Rattle.ra_link_core.specs.LinkRuns.{Serving, link_run, hub_left}
 use Rattle.ra_link.specs.Served.{LinkOutcome, link_closed, link_broke, link_spent, link_over, link_unkept, link_short, link_outcome, OnBroke, OnNotKept, ReadsAre, LinkEnds, IsServed, IsComplete, ClosedOrShort}
 use Rattle.ra_link.specs.declared.ends.LinkEnd.{LinkEnd}
 

@@ -14,19 +14,19 @@ use Rattle.ra_opening.specs.Comes.{AsksFraming}
 use Rattle.ra_ports.specs.Links.{Incoming, StartsPayload}
 use Rattle.ra_hub.specs.Hubs.{Hub}
 use Rattle.ra_hub.specs.Jobs.{SeenJob}
-use Rattle.ra_link.specs.LinkRuns.{Serving, asks_framing, with_piece}
-use Rattle.ra_link.specs.Makes.{Outcome, goes, over, unkept, short, outcome_of}
-use Rattle.ra_link.specs.Cores.{CoreStands, NotHeld, IsHeld, HeldOrShort, OnHeld, OnNoHead, IsPastHead, IsBehindHead, counted_in}
+use Rattle.ra_link_core.specs.LinkRuns.{Serving, asks_framing, with_piece}
+use Rattle.ra_link_core.specs.Makes.{Outcome, goes, over, unkept, short, outcome_of}
+use Rattle.ra_link_core.specs.Cores.{CoreStands, NotHeld, IsHeld, HeldOrShort, OnHeld, OnNoHead, IsPastHead, IsBehindHead, counted_in}
 use Rattle.ra_link.specs.Pieces.{is_framed}
 use Rattle.ra_link.specs.Served.{LinkOutcome, link_outcome, link_end, broken_end, OnFramed, CouldNotFrame, FramesBy}
-use Rattle.ra_link.specs.declared.ends.CoreEnd.{CoreEnd}
+use Rattle.ra_link_core.specs.declared.ends.CoreEnd.{CoreEnd}
 use Rattle.ra_link.specs.declared.ends.LinkEnd.{LinkEnd}
 use Rattle.ra_link.specs.declared.ends.LinkEnd.TheVariants as ends
-use Rattle.ra_link.specs.declared.phase.Phase.{Phase}
-use Rattle.ra_link.specs.declared.phase.Phase.TheVariants as phases
-use Rattle.ra_link.proofs.CutLemmas.{no_items, waiting_behind, held_asks_in, held_place, asks_frames}
+use Rattle.ra_link_core.specs.declared.phase.Phase.{Phase}
+use Rattle.ra_link_core.specs.declared.phase.Phase.TheVariants as phases
+use Rattle.ra_link_core.proofs.CutLemmas.{no_items, waiting_behind, held_asks_in, held_place, asks_frames}
 use Rattle.ra_link.proofs.ComeLemmas.{framed_asks, unframed_early, framed_so, head_ends}
-use Rattle.ra_link.proofs.PieceLemmas.{unheld_stands}
+use Rattle.ra_link_core.proofs.PieceLemmas.{unheld_stands}
 use Rattle.ra_link.proofs.ServeLemmas.{held_or_not, lifted, end_lifted, broken_to, any_broken, never_goes}
 
 never_both : true ≡ false → ⊥

@@ -17,18 +17,18 @@ use Rattle.ra_opening.specs.Openings.{Grounds}
 use Rattle.ra_opening.specs.Stands.{StandsIn, NeedsFraming}
 use Rattle.ra_hub.specs.Hubs.{Hub}
 use Rattle.ra_hub.specs.Jobs.{SeenJob}
-use Rattle.ra_link.specs.LinkRuns.{Serving, Piece, asks_framing, with_piece}
-use Rattle.ra_link.specs.Makes.{Outcome, goes, over, unkept, short, outcome_of}
-use Rattle.ra_link.specs.Cores.{CoreStands, NotHeld, KnowsHead, OnNoHead, IsBehindHead}
+use Rattle.ra_link_core.specs.LinkRuns.{Serving, Piece, asks_framing, with_piece}
+use Rattle.ra_link_core.specs.Makes.{Outcome, goes, over, unkept, short, outcome_of}
+use Rattle.ra_link_core.specs.Cores.{CoreStands, NotHeld, KnowsHead, OnNoHead, IsBehindHead}
 use Rattle.ra_link.specs.Pieces.{bytes_of, counted, HaveHead}
 use Rattle.ra_link.specs.Served.{LinkOutcome, link_closed, link_broke, link_spent, link_over, link_unkept, link_short, link_outcome, link_end, broken_end, OnNotShort, LinkKnows}
-use Rattle.ra_link.specs.declared.ends.CoreEnd.{CoreEnd}
+use Rattle.ra_link_core.specs.declared.ends.CoreEnd.{CoreEnd}
 use Rattle.ra_link.specs.declared.ends.LinkEnd.{LinkEnd}
-use Rattle.ra_link.specs.declared.phase.Phase.{Phase}
-use Rattle.ra_link.specs.declared.phase.Phase.TheVariants as phases
-use Rattle.ra_link.proofs.CutLemmas.{no_items, waiting_behind, with_longer, with_by}
-use Rattle.ra_link.proofs.ComeLemmas.{counted_more, behind_counts, unframed_counts}
-use Rattle.ra_link.proofs.PieceLemmas.{unheld_stands}
+use Rattle.ra_link_core.specs.declared.phase.Phase.{Phase}
+use Rattle.ra_link_core.specs.declared.phase.Phase.TheVariants as phases
+use Rattle.ra_link_core.proofs.CutLemmas.{no_items, waiting_behind, with_longer, with_by, behind_counts}
+use Rattle.ra_link.proofs.ComeLemmas.{counted_more, unframed_counts}
+use Rattle.ra_link_core.proofs.PieceLemmas.{unheld_stands}
 use Rattle.ra_link.proofs.ServeLemmas.{lifted, end_lifted, broken_to, any_broken}
 
 never_both : true ≡ false → ⊥

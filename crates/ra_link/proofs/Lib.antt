@@ -1,16 +1,6 @@
-pub mod GrowLemmas
-pub mod TurnLemmas
-pub mod AskLemmas
-pub mod CutLemmas
-pub mod DrawLemmas
-pub mod PieceLemmas
 pub mod ComeLemmas
 pub mod ServeLemmas
 pub mod FrameLemmas
 pub mod KnownLemmas
 pub mod CompleteLemmas
 pub mod LoopLemmas
-pub mod NeverUnlinked
-pub mod TurnSizes
-pub mod AllRead
-pub mod SeatLemmas

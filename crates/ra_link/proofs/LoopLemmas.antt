@@ -18,20 +18,20 @@ use Rattle.ra_ports.specs.declared.link.Got.{Got}
 use Rattle.ra_ports.specs.declared.link.Got.TheVariants.{Bytes, NotYet, End as GotEnd}
 use Rattle.ra_hub.specs.Hubs.{Hub}
 use Rattle.ra_hub.specs.Jobs.{SeenJob}
-use Rattle.ra_link.specs.LinkRuns.{Serving, Piece, piece_done, link_run, with_piece, hub_left, new_serving}
-use Rattle.ra_link.specs.Makes.{Happens}
-use Rattle.ra_link.specs.Cores.{CoreStands, NotHeld, OnNoHead, IsBehindHead, seat_in}
+use Rattle.ra_link_core.specs.LinkRuns.{Serving, Piece, piece_done, link_run, with_piece, hub_left, new_serving}
+use Rattle.ra_link_core.specs.Makes.{Happens}
+use Rattle.ra_link_core.specs.Cores.{CoreStands, NotHeld, OnNoHead, IsBehindHead, seat_in}
 use Rattle.ra_link.specs.Pieces.{counted, NowsAre, HaveHead, is_framed, Come}
 use Rattle.ra_link.specs.Served.{LinkOutcome, link_closed, link_broke, link_spent, link_over, link_unkept, link_short, link_outcome, IsPieceEnd, IsSpent, ReadsAre, got_len, raised, CouldNotFrame, UnableBy, FramesBy, Frames, LinkKnows, Serves, LinkEnds, AfterPiece, WasServed, IsServed, SoFar, Starts}
 use Rattle.ra_link.specs.declared.ends.LinkEnd.{LinkEnd}
 use Rattle.ra_link.specs.declared.ends.LinkEnd.TheVariants as ends
-use Rattle.ra_link.specs.declared.phase.Phase.{Phase}
-use Rattle.ra_link.specs.declared.phase.Phase.TheVariants as phases
-use Rattle.ra_link.proofs.CutLemmas.{HasHeads, heads_so, no_items}
+use Rattle.ra_link_core.specs.declared.phase.Phase.{Phase}
+use Rattle.ra_link_core.specs.declared.phase.Phase.TheVariants as phases
+use Rattle.ra_link_core.proofs.CutLemmas.{HasHeads, heads_so, no_items}
 use Rattle.ra_link.proofs.ComeLemmas.{counted_more, come_more, come_stays, come_same, come_nothing}
-use Rattle.ra_link.proofs.GrowLemmas.{happens_refl, happens_trans, grows_refl}
+use Rattle.ra_link_core.proofs.GrowLemmas.{happens_refl, happens_trans, grows_refl}
 use Rattle.ra_link.proofs.KnownLemmas.{known_more, known_ended, known_stays, none_known}
-use Rattle.ra_link.proofs.PieceLemmas.{piece_happens, behind_more}
+use Rattle.ra_link_core.proofs.PieceLemmas.{piece_happens, behind_more}
 use Rattle.ra_link.proofs.ServeLemmas.{core_going}
 
 -- ---- counts

@@ -15,17 +15,17 @@ use Rattle.ra_opening.specs.Stands.{OpeningState, Stands, StandsIn, NeedsFraming
 use Rattle.ra_ports.specs.Links.{Sends, SendsFront}
 use Rattle.ra_hub.specs.Hubs.{Hub}
 use Rattle.ra_hub.specs.Jobs.{SeenJob}
-use Rattle.ra_link.specs.LinkRuns.{Serving}
-use Rattle.ra_link.specs.Makes.{Happens, IsGoing, Outcome, goes, over, unkept, short, outcome_of}
-use Rattle.ra_link.specs.Cores.{IsOpening, CoreStands, CoreMakes, NotHeld, IsHeld, OpeningFramed, SetsFramed, counted_in, base_of, seat_in}
+use Rattle.ra_link_core.specs.LinkRuns.{Serving}
+use Rattle.ra_link_core.specs.Makes.{Happens, IsGoing, Outcome, goes, over, unkept, short, outcome_of}
+use Rattle.ra_link_core.specs.Cores.{IsOpening, CoreStands, CoreMakes, NotHeld, IsHeld, OpeningFramed, SetsFramed, counted_in, base_of, seat_in}
 use Rattle.ra_link.specs.Served.{link_end, broken_end, LinkOutcome, link_closed, link_broke, link_over, link_unkept, link_short, link_outcome, OnFramed, SentFront, LinkEnds, AfterPiece}
-use Rattle.ra_link.specs.declared.ends.CoreEnd.{CoreEnd}
-use Rattle.ra_link.specs.declared.ends.CoreEnd.TheVariants as core_ends
+use Rattle.ra_link_core.specs.declared.ends.CoreEnd.{CoreEnd}
+use Rattle.ra_link_core.specs.declared.ends.CoreEnd.TheVariants as core_ends
 use Rattle.ra_link.specs.declared.ends.LinkEnd.{LinkEnd}
 use Rattle.ra_link.specs.declared.ends.LinkEnd.TheVariants as ends
-use Rattle.ra_link.specs.declared.phase.Phase.{Phase}
-use Rattle.ra_link.specs.declared.phase.Phase.TheVariants as phases
-use Rattle.ra_link.proofs.GrowLemmas.{happens_trans, grows_refl}
+use Rattle.ra_link_core.specs.declared.phase.Phase.{Phase}
+use Rattle.ra_link_core.specs.declared.phase.Phase.TheVariants as phases
+use Rattle.ra_link_core.proofs.GrowLemmas.{happens_trans, grows_refl}
 
 -- ---- what a core tells
 

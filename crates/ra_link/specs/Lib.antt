@@ -1,6 +1,2 @@
-pub mod HubEvents
-pub mod LinkRuns
-pub mod Makes
-pub mod Cores
 pub mod Pieces
 pub mod Served

@@ -4,7 +4,7 @@ use Rattle.ra_upgrade.specs.declared.request_head.HeadFault.{HeadFault}
 use Rattle.ra_upgrade.specs.declared.request_head.Upgrade.{Upgrade}
 use Rattle.ra_items.specs.Heads.{Head, IsRequestOf}
 use Rattle.ra_ports.specs.Links.{Incoming, Takes}
-use Rattle.ra_link.specs.LinkRuns.{Piece, asks_framing, with_piece}
+use Rattle.ra_link_core.specs.LinkRuns.{Piece, asks_framing, with_piece}
 
 abbrev pub bytes_of : List Piece → List ℕ
 bytes_of pieces = flat_map (λ p. p.bytes) pieces

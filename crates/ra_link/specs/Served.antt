@@ -14,15 +14,15 @@ use Rattle.ra_ports.specs.declared.link.Got.TheVariants.{Bytes, NotYet, End as E
 use Rattle.ra_session.specs.SessionRefusals.{ended, stale, no_link, too_long, bad_ipc, ids_spent, bad_message}
 use Rattle.ra_hub.specs.Hubs.{Hub}
 use Rattle.ra_hub.specs.Jobs.{SeenJob}
-use Rattle.ra_link.specs.LinkRuns.{Serving, Piece, End, head_refused, request_refused, refused_by, asked, with_piece, link_run, hub_left}
-use Rattle.ra_link.specs.Makes.{Happens, Grows}
-use Rattle.ra_link.specs.Cores.{CoreStands, IsBehindHead, seat_in}
+use Rattle.ra_link_core.specs.LinkRuns.{Serving, Piece, End, head_refused, request_refused, refused_by, asked, with_piece, link_run, hub_left}
+use Rattle.ra_link_core.specs.Makes.{Happens, Grows}
+use Rattle.ra_link_core.specs.Cores.{CoreStands, IsBehindHead, seat_in}
 use Rattle.ra_link.specs.Pieces.{counted, NowsAre, HaveHead, is_framed, Come}
-use Rattle.ra_link.specs.declared.ends.CoreEnd.{CoreEnd}
-use Rattle.ra_link.specs.declared.ends.CoreEnd.TheVariants as core_ends
+use Rattle.ra_link_core.specs.declared.ends.CoreEnd.{CoreEnd}
+use Rattle.ra_link_core.specs.declared.ends.CoreEnd.TheVariants as core_ends
 use Rattle.ra_link.specs.declared.ends.LinkEnd.{LinkEnd}
 use Rattle.ra_link.specs.declared.ends.LinkEnd.TheVariants as ends
-use Rattle.ra_link.specs.declared.phase.Phase.{Phase}
+use Rattle.ra_link_core.specs.declared.phase.Phase.{Phase}
 
 -- ---- ends
 

@@ -1,16 +1,11 @@
-//! One connection served, from its first byte to its end: its opening, its session's turns, and the jobs that they give.
+//! One connection served, from its first byte to its end: the core of a served link over a link and a clock.
 //!
 //! It opens no connection and starts no thread, and what jobs mean is not known here.
 #![tactic(auto)]
 
-mod ask;
 pub mod ends;
-pub mod laws;
-pub mod link_core;
-mod phase;
 pub mod serve;
-mod turns;
 
-pub use ends::{CoreEnd, LinkEnd};
-pub use link_core::{LinkCore, Settings};
+pub use ends::LinkEnd;
+pub use ra_link_core::{CoreEnd, LinkCore, Settings};
 pub use serve::serve_link;

@@ -9,15 +9,15 @@ ghost use Rattle.ra_ports.specs.Links.{StartsPayload};
 ghost use Rattle.ra_base.specs.declared.key.Seat.{Seat};
 ghost use Rattle.ra_hub.specs.Hubs as spec;
 ghost use Rattle.ra_hub.specs.Jobs.{SeenJob};
-ghost use Rattle.ra_link.specs.LinkRuns.{Serving, piece_done, with_piece, new_serving};
-ghost use Rattle.ra_link.specs.Makes.{Happens, Holds, Balance};
-ghost use Rattle.ra_link.specs.Cores.{CoreStands, NotHeld, IsHeld, IsBehindHead, OnHeld, OnNoHead, SetsFramed, seat_in};
+ghost use Rattle.ra_link_core.specs.LinkRuns.{Serving, piece_done, with_piece, new_serving};
+ghost use Rattle.ra_link_core.specs.Makes.{Happens, Holds, Balance};
+ghost use Rattle.ra_link_core.specs.Cores.{CoreStands, NotHeld, IsHeld, IsBehindHead, OnHeld, OnNoHead, SetsFramed, seat_in};
 ghost use Rattle.ra_link.specs.Served.{AfterPiece, Starts, WasServed, IsServed, IsComplete, IsPieceEnd, OnSome, OnBroke, OnNotKept, EndedSo, OnFramed, Frames, LinkKnows, MadeCalls, raised, link_outcome, link_end, broken_end, got_len};
 
-use crate::ends::{CoreEnd, LinkEnd};
-use crate::link_core::{LinkCore, Settings};
+use crate::ends::LinkEnd;
 use ra_base::Moment;
 use ra_hub::{Hub, JobSink};
+use ra_link_core::{CoreEnd, LinkCore, Settings};
 use ra_ports::{Clock, Entropy, Got, Link, LinkFault, Signer, send_all};
 use std::alloc::{AllocError, Global};
 

@@ -1,8 +1,8 @@
 use Rattle.std.proofs.Common.{refl, sym}
 use Rattle.ra_opening.specs.Openings.{Grounds, grounds_of}
 use Rattle.ra_ports.specs.Causes.{Rose}
-use Rattle.ra_link.specs.LinkRuns.{new_serving}
-use Rattle.ra_link.specs.Cores.{seat_in}
+use Rattle.ra_link_core.specs.LinkRuns.{new_serving}
+use Rattle.ra_link_core.specs.Cores.{seat_in}
 use Rattle.ra_link.proofs.LoopLemmas.{served_left, not_served, new_starts}
 use Rattle.ra_link.proofs.CompleteLemmas.{completes, kept_left}
 use Rattle.ra_link.specs.Served.{link_outcome}

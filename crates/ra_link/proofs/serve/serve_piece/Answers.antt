@@ -1,14 +1,14 @@
 use Rattle.std.proofs.Common.{◌≡◌, Some, [], ◌++◌, length, drop, ◌∙◌, ap}
 use Rattle.ra_opening.specs.Openings.{Grounds, grounds_of}
 use Rattle.ra_ports.specs.Causes.{Rose}
-use Rattle.ra_link.specs.LinkRuns.{with_piece, piece_done}
-use Rattle.ra_link.proofs.GrowLemmas.{happens_trans}
-use Rattle.ra_link.proofs.PieceLemmas.{piece_happens}
+use Rattle.ra_link_core.specs.LinkRuns.{with_piece, piece_done}
+use Rattle.ra_link_core.proofs.GrowLemmas.{happens_trans}
+use Rattle.ra_link_core.proofs.PieceLemmas.{piece_happens}
 use Rattle.ra_link.proofs.ServeLemmas.{broken_piece, sent_end, goes_framed}
 use Rattle.ra_link.proofs.ComeLemmas.{head_ends}
 use Rattle.ra_link.proofs.FrameLemmas.{framed_past, framed_due, unframed_free, frames_by, frames_stay, frames_held, unable_broken, unable_ended}
-use Rattle.ra_link.specs.Cores.{NotHeld, IsHeld, HeldOrShort, KnowsHead, SetsFramed}
-use Rattle.ra_link.specs.Makes.{outcome_of}
+use Rattle.ra_link_core.specs.Cores.{NotHeld, IsHeld, HeldOrShort, KnowsHead, SetsFramed}
+use Rattle.ra_link_core.specs.Makes.{outcome_of}
 use Rattle.ra_link.specs.Pieces.{is_framed}
 use Rattle.ra_link.specs.Served.{link_end, broken_end, link_outcome, OnNotShort, LinkKnows}
 use Rattle.ra_opening.specs.Comes.{HasHead}

@@ -3,7 +3,7 @@ use Rattle.ra_opening.specs.Openings.{Grounds, grounds_of}
 use Rattle.ra_ports.specs.Causes.{Rose, next_count}
 use Rattle.ra_ports.specs.Links.{Takes}
 use Rattle.ra_link.specs.Served.{link_outcome}
-use Rattle.ra_link.specs.LinkRuns.{with_piece, piece_done}
+use Rattle.ra_link_core.specs.LinkRuns.{with_piece, piece_done}
 use Rattle.ra_link.proofs.LoopLemmas.{failed_there, closed_there, spent_there, ended_there, goes_there, starts_there, raised_more, after_failed, rose_from, piece_at, PieceCame, got_piece, got_none, got_goes, never_spent}
 use Rattle.ra_link.proofs.serve.serve_pieces.Goals as goal
 

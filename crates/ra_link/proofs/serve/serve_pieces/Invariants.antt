@@ -1,8 +1,8 @@
 use Rattle.std.proofs.Common.{◌≡◌, ◌≤◌, ℕ, false, List}
 use Rattle.ra_opening.specs.Openings.{grounds_of}
-use Rattle.ra_link.specs.LinkRuns.{Serving}
-use Rattle.ra_link.specs.Makes.{Holds, Balance}
-use Rattle.ra_link.specs.Cores.{NotHeld, seat_in}
+use Rattle.ra_link_core.specs.LinkRuns.{Serving}
+use Rattle.ra_link_core.specs.Makes.{Holds, Balance}
+use Rattle.ra_link_core.specs.Cores.{NotHeld, seat_in}
 use Rattle.ra_link.specs.Served.{Starts, SoFar, raised}
 use Rattle.ra_link.proofs.serve.serve_pieces.Given as goal
 

@@ -1,5 +1,5 @@
 use Rattle.std.proofs.Common.{ap}
-use Rattle.ra_link.specs.Makes.{outcome_of}
+use Rattle.ra_link_core.specs.Makes.{outcome_of}
 use Rattle.ra_grand.proofs.PieceSteps.{takes_so}
 use Rattle.ra_grand.proofs.served_link.ServedLink.piece.Goals as goal
 

@@ -1,5 +1,5 @@
 use Rattle.std.proofs.Common.{ℕ, None, Some, refl, sym, subst}
-use Rattle.ra_link.specs.Makes.{outcome_of}
+use Rattle.ra_link_core.specs.Makes.{outcome_of}
 use Rattle.ra_grand.specs.Pieces.{LeavesAt}
 use Rattle.ra_grand.proofs.PieceSteps.{ends_so}
 use Rattle.ra_grand.proofs.ReceiveSteps.{delivers_goes, delivers_ends}

@@ -1,4 +1,4 @@
-use Rattle.ra_link.specs.Makes.{outcome_of}
+use Rattle.ra_link_core.specs.Makes.{outcome_of}
 use Rattle.ra_grand.proofs.ReceiveSteps.{receives_by}
 use Rattle.ra_grand.proofs.world.GrandWorld.receive.Goals as goal
 

@@ -1,5 +1,0 @@
-use Rattle.ra_link.proofs.NeverUnlinked.{run_never}
-use Rattle.ra_link.proofs.laws.never_unlinked.Goals as goal
-
-pub returns : goal.returns
-returns c = run_never

@@ -1,6 +1,0 @@
-use Rattle.ra_link.proofs.TurnLemmas.{lose_stands}
-use Rattle.ra_link.proofs.link_core.leave_in.Goals as goal
-
-pub returns-in-Seated-clause-made : goal.returns-in-Seated-clause-made
-returns-in-Seated-clause-made g c = λ h stands.
-    rw c.in-Seated.is (lose_stands c.in-Seated.seat c.args.now h (g.H.Hub.stands c.lost.new.self) (c.lost.ensures.told h stands))

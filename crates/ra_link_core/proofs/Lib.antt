@@ -1,0 +1,10 @@
+pub mod GrowLemmas
+pub mod TurnLemmas
+pub mod AskLemmas
+pub mod CutLemmas
+pub mod DrawLemmas
+pub mod PieceLemmas
+pub mod NeverUnlinked
+pub mod TurnSizes
+pub mod AllRead
+pub mod SeatLemmas

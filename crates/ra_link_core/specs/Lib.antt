@@ -1,0 +1,4 @@
+pub mod HubEvents
+pub mod LinkRuns
+pub mod Makes
+pub mod Cores
