@@ -3,6 +3,7 @@
 import glob
 import os
 import re
+import subprocess
 import sys
 from collections import defaultdict
 
@@ -99,6 +100,9 @@ for page in ["README.md"] + sorted(glob.glob("docs/*.md")):
                     for name in re.findall(r"`([^`]+)`", names) if has is not None else []:
                         if name not in has:
                             missing.append(f"{where}: {call} of {crate} has no clause {name}")
+
+if subprocess.run(["docs/reading.py"], capture_output=True, text=True).stdout != open("docs/READING.md").read():
+    missing.append("docs/READING.md: not what docs/reading.py prints")
 
 # ---- each crate has its place
 headings = set(re.findall(r"\w+", " ".join(re.findall(r"(?m)^#+ (.*)", open("docs/PROVED.md").read()))))
