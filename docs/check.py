@@ -38,7 +38,7 @@ for path, source in SOURCES.items():
                 clauses[crate_of(path), name, function]
         elif re.match(r"\s*\{\}?$", line):
             function = None
-        for clause in re.findall(r"(?:ensures|requires) (\w+) \{", line) if function else []:
+        for clause in re.findall(r"ensures (\w+) \{", line) if function else []:
             for name in (None, owner, module):
                 clauses[crate_of(path), name, function].add(clause)
 
@@ -62,7 +62,8 @@ def check_word(where, word):
         if word not in CRATES:
             missing.append(f"{where}: no crate {word}")
     elif re.fullmatch(r"[\w.*/-]+", word) and (re.match(r"(crates|docs|bench|ra_\w+)/", word) or re.search(r"\w\.(rt|antt|md|sh|py|rs|grand|txt)$", word)):
-        if not any(glob.glob(base + word) for base in ("", "docs/", "crates/", "crates/*/", "crates/*/src/", "crates/*/specs/")):
+        folders = ("", "docs/", "crates/", "crates/*/", "crates/*/src/", "crates/*/specs/")
+        if not any(glob.glob(folder + word + ending) for folder in folders for ending in ("", ".antt", ".rt")):
             missing.append(f"{where}: no file {word}")
     elif re.fullmatch(r"\w+(<.*>)?(::\w+(<.*>)?)+(\(\))?", word) and not word.startswith("std::"):
         if find(word) is None:
@@ -71,7 +72,8 @@ def check_word(where, word):
         missing.append(f"{where}: {word} is nowhere in the sources")
 
 
-# ---- the pages
+# ---- the pages, and the clauses that PROVED.md names of each call
+named = defaultdict(set)
 for page in ["README.md"] + sorted(glob.glob("docs/*.md")):
     code = crate = None
     for number, line in enumerate(open(page), 1):
@@ -85,21 +87,21 @@ for page in ["README.md"] + sorted(glob.glob("docs/*.md")):
                 missing.append(f"{where}: no file {target}")
         for word in re.findall(r"`([^`]+)`", line):
             check_word(where, word)
-        if page != "docs/PROVED.md":
-            continue
-        if line.startswith("#"):
+        if page == "docs/PROVED.md" and line.startswith("#"):
             crate = line.strip("# \n").split(",")[0]
         cells = line.split(" | ")
-        if crate in CRATES and len(cells) > 1 and "`" in cells[1]:
-            for part in cells[1].split(";"):
-                calls, _, names = part.partition("`:")
-                for call in re.findall(r"`([^`]+)", calls):
-                    has = find(call, crate)
-                    if has is None:
-                        missing.append(f"{where}: no {call} in {crate}")
-                    for name in re.findall(r"`([^`]+)`", names) if has is not None else []:
-                        if name not in has:
-                            missing.append(f"{where}: {call} of {crate} has no clause {name}")
+        for part in cells[1].split(";") if crate in CRATES and len(cells) > 1 else []:
+            calls, _, names = part.partition("`:")
+            for call in re.findall(r"`([^`]+)", calls):
+                named[page, crate, call] |= set(re.findall(r"`([^`]+)`", names))
+
+for (page, crate, call), names in named.items():
+    has = find(call, crate)
+    if has is None:
+        missing.append(f"{page}: no {call} in {crate}")
+    else:
+        missing += [f"{page}: {call} of {crate} has no clause {name}" for name in names - has]
+        missing += [f"{page}: no row names the clause {name} of {call} of {crate}" for name in has - names]
 
 if subprocess.run(["docs/reading.py"], capture_output=True, text=True).stdout != open("docs/READING.md").read():
     missing.append("docs/READING.md: not what docs/reading.py prints")
