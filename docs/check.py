@@ -58,6 +58,8 @@ def find(call, crate=None):
 
 def check_word(where, word):
     """A crate, a path of a file, or a call in back quotes."""
+    if "NAME" in word:
+        return
     if re.fullmatch(r"ra_\w+", word):
         if word not in CRATES:
             missing.append(f"{where}: no crate {word}")
@@ -70,6 +72,24 @@ def check_word(where, word):
             missing.append(f"{where}: no {word}")
     elif re.fullmatch(r"[a-z]+(_[a-z]+)+", word) and word not in WORDS:
         missing.append(f"{where}: {word} is nowhere in the sources")
+
+
+EDITS = set(glob.glob("crates/*/must-fail/*.edit"))
+tried = set()
+
+
+def check_index(where, line):
+    """A row of INDEX.md: behind the name of a crate stand its definitions, its files and its edits, each in back quotes."""
+    crate = None
+    for name, word in re.findall(r"\b(ra_\w+|\w+_tests)\b|`([^`]+)`", line):
+        crate = name or crate
+        if name and name not in CRATES:
+            missing.append(f"{where}: no crate {name}")
+        edit = f"crates/{crate}/must-fail/{word}.edit"
+        if edit in EDITS:
+            tried.add(edit)
+        elif word and crate and not any(os.path.exists(f"crates/{crate}/{it}") for it in (f"specs/{word}.antt", f"src/{word}", f"src/{word}.rt")):
+            missing.append(f"{where}: {crate} has no {word}")
 
 
 # ---- the pages, and the clauses that PROVED.md names of each call
@@ -85,6 +105,9 @@ for page in ["README.md"] + sorted(glob.glob("docs/*.md")):
         for target in re.findall(r"\]\(([^)#]+)[^)]*\)", line):
             if "://" not in target and not os.path.exists(os.path.join(os.path.dirname(page), target)):
                 missing.append(f"{where}: no file {target}")
+        if page == "docs/INDEX.md" and line.startswith("| "):
+            check_index(where, line)
+            continue
         for word in re.findall(r"`([^`]+)`", line):
             check_word(where, word)
         if page == "docs/PROVED.md" and line.startswith("#"):
@@ -102,6 +125,8 @@ for (page, crate, call), names in named.items():
     else:
         missing += [f"{page}: {call} of {crate} has no clause {name}" for name in names - has]
         missing += [f"{page}: no row names the clause {name} of {call} of {crate}" for name in has - names]
+
+missing += [f"docs/INDEX.md: no row names {edit}" for edit in sorted(EDITS - tried)]
 
 if subprocess.run(["docs/reading.py"], capture_output=True, text=True).stdout != open("docs/READING.md").read():
     missing.append("docs/READING.md: not what docs/reading.py prints")
