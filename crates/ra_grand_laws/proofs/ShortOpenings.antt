@@ -24,7 +24,7 @@ use Rattle.ra_link_laws.specs.Parts.{EndStands}
 use Rattle.ra_link_laws.proofs.ServedAdmissions.{IsNew, HasAsked}
 use Rattle.ra_link_laws.proofs.ServedFocus.{Ground, Focus}
 use Rattle.ra_link_laws.proofs.ServedOpenings.{IsShaking, fronts, opened_now, opens_now, come, new_now, speaks_answer, speaks_nothing, asked_now}
-use Rattle.ra_link_laws.proofs.ServedParts.{own_seat, plain, start}
+use Rattle.ra_link_laws.proofs.ServedParts.{own_seat, plain, start, shaking_at}
 use Rattle.ra_link_laws.proofs.ServedRuns.{link_after, put_first}
 use Rattle.ra_link_laws.proofs.ServedTexts.{IsPut}
 use Rattle.ra_link_laws.proofs.ServedTurns.{seat_at, put_nothing}

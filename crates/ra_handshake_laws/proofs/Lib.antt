@@ -4,4 +4,4 @@ pub mod OpenedFronts
 mod FrameFronts
 mod HandshakeTexts
 mod HandshakeSteps
-mod Handshaking
+pub mod Handshaking

@@ -48,8 +48,8 @@ serve_write key bytes s t both = record {
   own = both.own;
 }
 
-serve_end : (key : Key) (end : End) (s t : Serving) → ServeAlike key s t → ServeAlike key (ends_by end s) (ends_by end t)
-serve_end key end s t both = record {
+pub serve_at_end : (key : Key) (o : Option End) (s t : Serving) → ServeAlike key s t → ServeAlike key (record s { end = o }) (record t { end = o })
+serve_at_end key o s t both = record {
   seat = both.seat;
   welcome = both.welcome;
   out = both.out;
@@ -60,6 +60,9 @@ serve_end key end s t both = record {
   jobs = both.jobs;
   own = both.own;
 }
+
+serve_end : (key : Key) (end : End) (s t : Serving) → ServeAlike key s t → ServeAlike key (ends_by end s) (ends_by end t)
+serve_end key end s t both = serve_at_end key (Some end) s t both
 
 -- an event that leaves the hubs agreed and gives jobs of the key
 serve_do : (key : Key) (e : HubEvent) (s t : Serving) → Agree key (event_done e s.hub) (event_done e t.hub) → jobs_for key (event_jobs e s.hub) ≡ event_jobs e t.hub

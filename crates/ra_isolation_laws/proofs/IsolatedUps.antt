@@ -29,7 +29,7 @@ use Rattle.ra_isolation_laws.specs.Isolation.{drawn_by, jobs_for}
 use Rattle.ra_isolation_laws.proofs.IsolatedClaims.{Claims, claims_on, any_at}
 use Rattle.ra_isolation_laws.proofs.IsolatedHubs.{Agree, IsOf}
 use Rattle.ra_isolation_laws.proofs.IsolatedOpenings.{draws_same, opened_same, front_up}
-use Rattle.ra_isolation_laws.proofs.IsolatedPieces.{ServeAlike, serve_served, serve_asked}
+use Rattle.ra_isolation_laws.proofs.IsolatedPieces.{ServeAlike, serve_served, serve_asked, serve_at_end}
 use Rattle.ra_isolation_laws.proofs.OthersPieces.{Beside, beside_served, beside_asked}
 use Rattle.std.specs.Prelude.{slice_get}
 
@@ -50,17 +50,7 @@ serve_by_stage owner reconnection key own theirs draw text (Shaking shake) o now
 serve_by_stage owner reconnection key own theirs draw text (Asked request place) o now s t at there both =
     subst (λ (q : Request). ServeAlike owner (asked q place (drop place text) now s) (asked q place (drop place text) now t)) (sym at.0)
     (serve_asked (request_for owner reconnection) place (drop place text) now s t there both)
-serve_by_stage owner reconnection key own theirs draw text (Over end) o now s t at there both = record {
-  seat = both.seat;
-  welcome = both.welcome;
-  out = both.out;
-  drawn = both.drawn;
-  events = both.events;
-  end = refl;
-  hub = both.hub;
-  jobs = both.jobs;
-  own = both.own;
-}
+serve_by_stage owner reconnection key own theirs draw text (Over end) o now s t at there both = serve_at_end owner _ s t both
 
 -- the draws that were made are the same
 abbrev SameDraws : Serving → (one other : ℕ → List ℕ) → Type 0
