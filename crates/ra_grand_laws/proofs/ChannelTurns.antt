@@ -18,7 +18,7 @@ use Rattle.ra_values.specs.Tree.{Tree}
 use Rattle.ra_ipc.specs.ChannelPairs.{Outcome}
 use Rattle.ra_session.specs.Hearing.{BadMessage, Happening, host, Heard, hears}
 use Rattle.ra_session.specs.SessionCalls.{feed_session, take_out}
-use Rattle.ra_session.specs.SessionRefusals.{ended, bad_ipc, feed_refusal}
+use Rattle.ra_session.specs.SessionRefusals.{bad_ipc, feed_refusal}
 use Rattle.ra_session.specs.Sessions.{Session, is_management}
 use Rattle.ra_session.specs.TurnRefusals.{heard_refusal, delivery_refusal, taken_refusal, turn_refusal}
 use Rattle.ra_session.specs.Turns.{heard_at, on_heard, on_delivery, take_in, take_turn, turn, happening_in, happening_of as happening_by, ended_by, taken_answer, turn_answer}
