@@ -20,17 +20,17 @@ use Rattle.ra_grand.specs.GrandClients.{GrandLink, Client, new_client, dialled, 
 use Rattle.ra_grand.specs.GrandRefusals.{Refusal, token_taken, of_link, of_client, by_session, holder}
 use Rattle.ra_grand.specs.GrandRuns.{joins, on_dialer, on_session, with_place, links, takes, is_last, comes_down}
 use Rattle.ra_grand.specs.Grands.{Grand, Place, Found, with_client, with_link, found_link, found_client, found_at, find_link, put_link}
+use Rattle.ra_run_laws.proofs.Lists.{none_there, there_is, number_same}
+use Rattle.ra_link_laws.specs.Parts.{WorldKeeps}
+use Rattle.ra_link_laws.proofs.WorldClients.{free, untaken, More, old, last, more_at}
+use Rattle.ra_link_laws.proofs.WorldLinks.{IsHere}
 use Rattle.ra_grand_laws.specs.ChannelParts.{ChannelsOf, ChannelsKeep}
 use Rattle.ra_grand_laws.specs.Outcomes.{framed}
-use Rattle.ra_grand_laws.specs.Parts.{WorldKeeps}
 use Rattle.ra_grand_laws.proofs.ChannelAsks.{cancel_gives, channels_new}
 use Rattle.ra_grand_laws.proofs.ChannelClients.{dialled_stays, dialled_gives, asked_stays}
 use Rattle.ra_grand_laws.proofs.ChannelSides.{Stays, stays_itself, stays_on, becomes_itself}
 use Rattle.ra_grand_laws.proofs.ChannelSteps.{Settled, Fired, channels_client, channels_put}
 use Rattle.ra_grand_laws.proofs.ChannelViews.{hears_from}
-use Rattle.ra_grand_laws.proofs.Lists.{none_there, there_is, number_same}
-use Rattle.ra_grand_laws.proofs.WorldClients.{free, untaken, More, old, last, more_at}
-use Rattle.ra_grand_laws.proofs.WorldLinks.{IsHere}
 use Rattle.ra_registry.proofs.SameKeys.{same_key_other_way}
 
 -- ---- a client that is there

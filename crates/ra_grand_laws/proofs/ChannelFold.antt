@@ -24,19 +24,19 @@ use Rattle.ra_grand.specs.GrandRuns.{on_session, bytes_up, bytes_down, comes_dow
 use Rattle.ra_grand.specs.Grands.{Grand, Found, find_link, on_link, new_grand}
 use Rattle.ra_grand.specs.Marks.{Mark, whole, short, unticked, Entry}
 use Rattle.ra_grand.specs.ServedLinks.{piece_came, server_left}
+use Rattle.ra_run_laws.specs.Runs.{IsUnbroken, unless}
+use Rattle.ra_run_laws.proofs.Lists.{none_there, there_is}
+use Rattle.ra_run_laws.proofs.Rising.{step_after}
+use Rattle.ra_run_laws.proofs.RisingHubs.{HaveRows}
+use Rattle.ra_link_laws.specs.Parts.{WorldKeeps}
+use Rattle.ra_link_laws.proofs.WorldLinks.{IsHere, chosen}
 use Rattle.ra_grand_laws.specs.ChannelParts.{ChannelsKeep}
-use Rattle.ra_grand_laws.specs.Outcomes.{framed, settled_by, fired_by, unless}
-use Rattle.ra_grand_laws.specs.Parts.{WorldKeeps}
-use Rattle.ra_grand_laws.specs.Runs.{IsUnbroken}
+use Rattle.ra_grand_laws.specs.Outcomes.{framed, settled_by, fired_by}
 use Rattle.ra_grand_laws.proofs.ChannelAsks.{call_stays, listen_stays, dispose_stays, say_stays}
 use Rattle.ra_grand_laws.proofs.ChannelEvents.{client_there, unrefused_by, for_number, dialer_quiet, asks_quiet, links_quiet, frame_handed, cancel_handed, channels_joins, found_here, put_quiet, down_quiet}
 use Rattle.ra_grand_laws.proofs.ChannelHubs.{channels_sweep, channels_work}
 use Rattle.ra_grand_laws.proofs.ChannelSides.{Stays}
 use Rattle.ra_grand_laws.proofs.ChannelSteps.{Settled, Fired, channels_same, channels_left}
-use Rattle.ra_grand_laws.proofs.Lists.{none_there, there_is}
-use Rattle.ra_grand_laws.proofs.Rising.{step_after}
-use Rattle.ra_grand_laws.proofs.RisingHubs.{HaveRows}
-use Rattle.ra_grand_laws.proofs.WorldLinks.{IsHere, chosen}
 
 -- ---- what other files prove
 

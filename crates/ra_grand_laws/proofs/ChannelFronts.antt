@@ -14,14 +14,14 @@ use Rattle.ra_link_core.specs.HubEvents.{HubEvent, event_done, event_jobs, event
 use Rattle.ra_link_core.specs.HubEvents.HubEvent.{Attach, Turn, Close}
 use Rattle.ra_link_core.specs.LinkRuns.{refused_by, Serving, Welcome, writes, does, closes, ends_by, Turned, turn_by, turn_ended, turn_in, turned, turned_again, turns_for, served, attached_by, attached_in}
 use Rattle.ra_link_core.proofs.GrowLemmas.{events_both}
+use Rattle.ra_link_laws.proofs.SeatTurns.{TurnStands, Comes, bad_admits, turned_stands, comes_nothing}
+use Rattle.ra_link_laws.proofs.ServedAdmissions.{attaches_going}
+use Rattle.ra_link_laws.proofs.ServedFocus.{Ground}
+use Rattle.ra_link_laws.proofs.ServedRuns.{Going, stands_going}
+use Rattle.ra_link_laws.proofs.ServedTurns.{seat_at}
 use Rattle.ra_grand_laws.specs.ChannelParts.{ChannelsOf, WorkFits}
-use Rattle.ra_grand_laws.proofs.SeatTurns.{TurnStands, Comes, bad_admits, turned_stands, comes_nothing}
-use Rattle.ra_grand_laws.proofs.ServedAdmissions.{attaches_going}
 use Rattle.ra_grand_laws.proofs.ServedChannels.{ClientEnd, KeepsChannels, more_jobs, closes_good, fed_view, made_good, answer_cause, turned_good, begun_good}
-use Rattle.ra_grand_laws.proofs.ServedFocus.{Ground}
 use Rattle.ra_grand_laws.proofs.ServedHearing.{turn_good}
-use Rattle.ra_grand_laws.proofs.ServedRuns.{Going, stands_going}
-use Rattle.ra_grand_laws.proofs.ServedTurns.{seat_at}
 use Rattle.ra_grand_laws.proofs.WorksFit.{JobsFit}
 
 -- the channels of the client and of the session of its key in this hub

@@ -23,14 +23,14 @@ use Rattle.ra_grand.specs.GrandSweeps.{left_by, sweeps}
 use Rattle.ra_grand.specs.Marks.{Mark}
 use Rattle.ra_grand.specs.SetUps.{context}
 use Rattle.ra_grand.specs.Works.{Telling, answers, speaks, told, telling, telling_refusal, Told, told_to, told_by, session_by, unless_ended, misses, tells, without_job, work_by, worked}
+use Rattle.ra_run_laws.proofs.Lists.{none_there, there_is}
+use Rattle.ra_run_laws.proofs.Rising.{told_session}
 use Rattle.ra_grand_laws.specs.ChannelParts.{WorkFits, HearsNone, ChannelsKeep}
 use Rattle.ra_grand_laws.proofs.ChannelAsks.{other_kind, no_say, said_hears}
 use Rattle.ra_grand_laws.proofs.ChannelSides.{Becomes, becomes_itself, becomes_mapped, keeps_swept}
 use Rattle.ra_grand_laws.proofs.ChannelSteps.{Settled, Fired, JobsFit, channels_hub, becomes_at}
 use Rattle.ra_grand_laws.proofs.ChannelTools.{TellingFits, telling_fits, sayable_fits, packets_fit}
 use Rattle.ra_grand_laws.proofs.ChannelTurns.{no_management}
-use Rattle.ra_grand_laws.proofs.HubSteps.{told_session}
-use Rattle.ra_grand_laws.proofs.Lists.{none_there, there_is}
 
 -- ---- sweeps
 

@@ -20,11 +20,10 @@ use Rattle.ra_channel_laws.proofs.Silence.{silent_lose}
 use Rattle.ra_grand.specs.GrandClients.{GrandLink, Client}
 use Rattle.ra_grand.specs.Grands.{Grand, Found, changed, with_client, with_link}
 use Rattle.ra_grand.specs.ServedLinks.{server_left}
+use Rattle.ra_run_laws.proofs.Lists.{none_there, there_is, same_or_not, get_same, get_other, by_bool}
+use Rattle.ra_link_laws.proofs.WorldLinks.{IsHere, StandsAt, stands_at}
 use Rattle.ra_grand_laws.specs.ChannelParts.{WorkFits, ChannelsOf, ChannelsKeep}
 use Rattle.ra_grand_laws.proofs.ChannelSides.{Becomes, becomes_itself, becomes_mapped, keeps_end_silent}
-use Rattle.ra_grand_laws.proofs.Lists.{none_there, there_is, same_or_not, get_same, get_other}
-use Rattle.ra_grand_laws.proofs.WorldLinks.{IsHere, StandsAt, stands_at}
-use Rattle.ra_grand_laws.proofs.WorldSteps.{by_bool}
 
 -- what each client has handed up, by its number
 abbrev pub Settled : Type 0

@@ -1,6 +1,5 @@
 -- A turn of an attached client, in the run of its channels.
-use Rattle.std.proofs.Common.{◌≡◌, ◌≢◌, ℕ, Bool, true, false, not, eqb, Option, Some, None, List, [], ◌++◌, refl, ap, sym, ◌∙◌, subst}
-use Rattle.std.specs.Prelude.{option_map}
+use Rattle.std.proofs.Common.{◌≡◌, ◌≢◌, ℕ, false, Option, Some, None, List, [], ◌++◌, refl, ap, sym, ◌∙◌, subst}
 use Rattle.std.proofs.lemmas.List.{append-nil}
 use Rattle.ra_base.specs.declared.event.Side.TheVariants.{A}
 use Rattle.ra_base.specs.declared.key.Cause.{Cause}
@@ -9,18 +8,17 @@ use Rattle.ra_base.specs.declared.kind.Kind.{Kind}
 use Rattle.ra_base.specs.declared.kind.Kind.TheVariants.{Management, ExtensionHost, Tunnel}
 use Rattle.ra_model.specs.declared.session.Up.{Up as Delivery}
 use Rattle.ra_model.specs.declared.session.Up.TheVariants.{Message as HandedUp, Control, Quiet, Ended as Closed}
-use Rattle.ra_model.specs.Endpoints.{Endpoint, is_linked}
+use Rattle.ra_model.specs.Endpoints.{Endpoint}
 use Rattle.ra_model.specs.Events.{taken}
 use Rattle.ra_model.specs.FirstFrame.{is_too_long, stated}
 use Rattle.ra_model.specs.Links.{Link}
-use Rattle.ra_model.specs.Refusals.{or_fault, fault_if}
 use Rattle.ra_model.specs.Taking.{delivery}
 use Rattle.ra_model.specs.Views.{View}
 use Rattle.ra_values.specs.Tree.{Tree}
 use Rattle.ra_ipc.specs.ChannelPairs.{Outcome}
 use Rattle.ra_session.specs.Hearing.{BadMessage, Happening, host, Heard, hears}
 use Rattle.ra_session.specs.SessionCalls.{feed_session, take_out}
-use Rattle.ra_session.specs.SessionRefusals.{Refusal, ended, stale, no_link, too_long, bad_ipc, ids_spent, feed_refusal}
+use Rattle.ra_session.specs.SessionRefusals.{bad_ipc, feed_refusal}
 use Rattle.ra_session.specs.Sessions.{Session, is_management}
 use Rattle.ra_session.specs.TurnRefusals.{heard_refusal, delivery_refusal, taken_refusal, turn_refusal}
 use Rattle.ra_session.specs.Turns.{heard_at, on_heard, on_delivery, take_in, take_turn, turn, happening_in, happening_of as happening_by, ended_by, taken_answer, turn_answer}
@@ -31,6 +29,7 @@ use Rattle.ra_channel_laws.proofs.Frames.{never_bad}
 use Rattle.ra_channel_laws.proofs.Links.{client_silent}
 use Rattle.ra_channel_laws.proofs.Silence.{not_bad, silent_feed, silent_out}
 use Rattle.ra_grand.specs.SetUps.{context}
+use Rattle.ra_link_laws.proofs.BadTurns.{both_none, second_is, feeds_going, fed_bad, long_bad, spent_bad}
 use Rattle.ra_grand_laws.specs.ChannelParts.{IsOrBegins, HearsNone, ChannelsOf}
 
 -- whichever session of the server it is that it hears, the two are the ends of a view once it has looked for bytes
@@ -41,30 +40,10 @@ HearsFrom session d =
 
 -- ---- refusals
 
-first_none : (a b : Option Refusal) → or_fault a b ≡ None → (a ≡ None) × (b ≡ None)
-first_none None b is = (refl, is)
-first_none (Some r) b is = absurd cc
-
-second_is : (a b : Option Refusal) (r : Refusal) → (a ≡ Some r → ⊥) → or_fault a b ≡ Some r → (a ≡ None) × (b ≡ Some r)
-second_is None b r differs is = (refl, is)
-second_is (Some q) b r differs is = absurd (differs is)
-
 -- of one that is not refused
 admits : (epoch now : ℕ) (d : Session) → turn_refusal epoch [] now d ≡ None → (feed_refusal epoch d ≡ None) × (taken_refusal now (feed_session epoch [] now d) ≡ None)
 unfolding turn_refusal
-admits epoch now d is = first_none (feed_refusal epoch d) (taken_refusal now (feed_session epoch [] now d)) is
-
-feed_bad : (c : Option Cause) (a b : Bool) (n : ℕ) (bad : BadMessage) (m : List ℕ)
-    → or_fault (option_map (λ cause. ended cause) c) (or_fault (fault_if a (stale n)) (fault_if b no_link)) ≡ Some (bad_ipc bad m) → ⊥
-feed_bad None true b n bad m is = cc
-feed_bad None false true n bad m is = cc
-feed_bad None false false n bad m is = cc
-feed_bad (Some cause) a b n bad m is = cc
-
-fed_bad : (epoch : ℕ) (d : Session) (bad : BadMessage) (m : List ℕ) → feed_refusal epoch d ≡ Some (bad_ipc bad m) → ⊥
-unfolding feed_refusal
-fed_bad epoch d bad m is =
-    feed_bad d.cause (not (eqb epoch d.peer.endpoint.epoch)) (not (is_linked d.peer.endpoint.phase)) d.peer.endpoint.epoch bad m is
+admits epoch now d is = both_none (feed_refusal epoch d) (taken_refusal now (feed_session epoch [] now d)) is
 
 -- of one that hears a bad message
 hears_bad : (epoch now : ℕ) (d : Session) (bad : BadMessage) (m : List ℕ) → turn_refusal epoch [] now d ≡ Some (bad_ipc bad m)
@@ -73,14 +52,10 @@ unfolding turn_refusal
 hears_bad epoch now d bad m is =
     second_is (feed_refusal epoch d) (taken_refusal now (feed_session epoch [] now d)) (bad_ipc bad m) (fed_bad epoch d bad m) is
 
-going_by : (c : Option Cause) (b : Option Refusal) → or_fault (option_map (λ cause. ended cause) c) b ≡ None → c ≡ None
-going_by None b is = refl
-going_by (Some cause) b is = absurd cc
-
 -- one that is fed has not ended
 fed_going : (epoch now : ℕ) (d : Session) → feed_refusal epoch d ≡ None → (feed_session epoch [] now d).cause ≡ None
-unfolding feed_refusal feed_session
-fed_going epoch now d is = going_by d.cause _ is
+unfolding feed_session
+fed_going epoch now d is = feeds_going epoch d is
 
 -- ---- a session of an extension host
 
@@ -113,14 +88,6 @@ host_nothing (Some (HandedUp id body)) now d h =
 host_nothing (Some (Control body)) now d h = (refl, refl)
 host_nothing (Some Quiet) now d h = (refl, refl)
 host_nothing (Some Closed) now d h = (refl, refl)
-
-spent_bad : (b : Bool) (bad : BadMessage) (m : List ℕ) → fault_if b ids_spent ≡ Some (bad_ipc bad m) → ⊥
-spent_bad true bad m is = cc
-spent_bad false bad m is = cc
-
-long_bad : (b : Bool) (n : ℕ) (bad : BadMessage) (m : List ℕ) → fault_if b (too_long n) ≡ Some (bad_ipc bad m) → ⊥
-long_bad true n bad m is = cc
-long_bad false n bad m is = cc
 
 host_good : (up : Option Delivery) (now : ℕ) (d : Session) (e : Endpoint) (bad : BadMessage) (m : List ℕ) → HearsNone d → delivery_refusal up now d e ≡ Some (bad_ipc bad m) → ⊥
 host_good None now d e bad m h is = cc

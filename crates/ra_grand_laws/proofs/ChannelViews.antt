@@ -12,8 +12,8 @@ use Rattle.ra_views.proofs.OtherLinks.{view_anew}
 use Rattle.ra_dial.specs.declared.stage.Stage.{Stage}
 use Rattle.ra_dial.specs.declared.stage.Stage.TheVariants as stages
 use Rattle.ra_grand.specs.GrandClients.{Client}
+use Rattle.ra_link_laws.specs.Parts.{IsWelcome, HasWelcome, IsServer, StageKeeps, PartHolds}
 use Rattle.ra_grand_laws.specs.ChannelParts.{IsOrBegins}
-use Rattle.ra_grand_laws.specs.Parts.{IsWelcome, HasWelcome, IsServer, StageKeeps, PartHolds}
 use Rattle.ra_grand_laws.proofs.ChannelTurns.{HearsFrom}
 
 -- the view with the session of the server, or with one that begins

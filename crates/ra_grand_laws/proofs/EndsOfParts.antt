@@ -13,9 +13,9 @@ use Rattle.ra_registry.specs.declared.row.Row.{Row}
 use Rattle.ra_session.specs.Sessions.{Session}
 use Rattle.ra_link_core.specs.LinkRuns.{Welcome}
 use Rattle.ra_grand.specs.GrandClients.{GrandLink, Client}
+use Rattle.ra_run_laws.proofs.Lists.{there_is}
+use Rattle.ra_link_laws.specs.Parts.{IsWelcome, HasWelcome, IsSeated, IsAttached, PartHolds}
 use Rattle.ra_grand_laws.specs.Ends.{BothHear, text_up, text_down, read_up, read_down, LinkHonest, HoldsLink}
-use Rattle.ra_grand_laws.specs.Parts.{IsWelcome, HasWelcome, IsSeated, IsAttached, PartHolds}
-use Rattle.ra_grand_laws.proofs.Lists.{there_is}
 
 -- the view with the session at the server
 pub view_with : (s : Session) (o : Option Row) (c : Client) (part : PartHolds (Some s) o c) → View 0 A part.number part.present c.dialer.session.peer s.peer part.session_links

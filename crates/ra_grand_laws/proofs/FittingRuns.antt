@@ -19,24 +19,24 @@ use Rattle.ra_grand.specs.Grands.{Grand, Place, Found, with_link, found_link, fo
 use Rattle.ra_grand.specs.GrandSweeps.{sweeps}
 use Rattle.ra_grand.specs.Marks.{Mark, whole, short, unticked, Entry}
 use Rattle.ra_grand.specs.ServedLinks.{serving_at, served, piece_came}
+use Rattle.ra_run_laws.specs.Runs.{IsUnbroken, HasKey, HaveKeys, HaveRequests, unless}
+use Rattle.ra_run_laws.proofs.Rising.{step_after, rows_new}
+use Rattle.ra_run_laws.proofs.RisingHubs.{HaveRows}
+use Rattle.ra_link_laws.specs.Parts.{WorldKeeps}
+use Rattle.ra_link_laws.proofs.Folding.{keeps_after, keeps_new, not_over, not_over_at}
+use Rattle.ra_link_laws.proofs.WorldLinks.{IsHere, StandsAt, stands_at, chosen}
+use Rattle.ra_link_laws.proofs.WorldSteps.{world_changes}
 use Rattle.ra_grand_laws.specs.ChannelParts.{ChannelsKeep}
 use Rattle.ra_grand_laws.specs.GoodEnds.{IsGoodIfAny}
-use Rattle.ra_grand_laws.specs.Outcomes.{settled_by, fired_by, unless, settled as settled_over, fired as fired_over}
-use Rattle.ra_grand_laws.specs.Parts.{WorldKeeps}
-use Rattle.ra_grand_laws.specs.Runs.{IsUnbroken, HasKey, HaveKeys, HaveRequests}
+use Rattle.ra_grand_laws.specs.Outcomes.{settled_by, fired_by, settled as settled_over, fired as fired_over}
 use Rattle.ra_grand_laws.proofs.ChannelFold.{Unmade, unmade_after, channels_after, channels_begun}
-use Rattle.ra_grand_laws.proofs.ChannelSteps.{channels_same}
 use Rattle.ra_grand_laws.proofs.ChannelFold.{nothing_more}
-use Rattle.ra_grand_laws.proofs.Folding.{keeps_after, keeps_new, not_over, not_over_at}
+use Rattle.ra_grand_laws.proofs.ChannelSteps.{channels_same}
 use Rattle.ra_grand_laws.proofs.PiecesKept.{channels_served, pieces_keep}
-use Rattle.ra_grand_laws.proofs.Rising.{step_after, rows_new}
-use Rattle.ra_grand_laws.proofs.RisingHubs.{HaveRows}
 use Rattle.ra_grand_laws.proofs.ServedEnds.{piece_ends}
 use Rattle.ra_grand_laws.proofs.ShortChannels.{short_channels}
 use Rattle.ra_grand_laws.proofs.ShortParts.{short_link, short_changes}
 use Rattle.ra_grand_laws.proofs.ShortRuns.{IsSpoiled}
-use Rattle.ra_grand_laws.proofs.WorldLinks.{IsHere, StandsAt, stands_at, chosen}
-use Rattle.ra_grand_laws.proofs.WorldSteps.{world_changes}
 
 abbrev Settled : Type 0
 Settled = ℕ → List (ℕ × Outcome)

@@ -11,14 +11,14 @@ use Rattle.ra_grand.specs.GrandClients.{GrandLink, Client}
 use Rattle.ra_grand.specs.Grands.{Grand, Found, with_link}
 use Rattle.ra_grand.specs.Marks.{whole}
 use Rattle.ra_grand.specs.ServedLinks.{piece_came}
+use Rattle.ra_run_laws.proofs.Lists.{there_is, same_or_not, get_same, get_other, by_bool}
+use Rattle.ra_link_laws.specs.Parts.{WorldKeeps}
+use Rattle.ra_link_laws.proofs.ServedParts.{piece_link, piece_changes}
+use Rattle.ra_link_laws.proofs.WorldLinks.{IsHere, StandsAt, stands_at}
+use Rattle.ra_link_laws.proofs.WorldSteps.{Changes}
 use Rattle.ra_grand_laws.specs.ChannelParts.{ChannelsOf, ChannelsKeep}
-use Rattle.ra_grand_laws.specs.Parts.{WorldKeeps}
-use Rattle.ra_grand_laws.proofs.Lists.{there_is, same_or_not, get_same, get_other}
 use Rattle.ra_grand_laws.proofs.ServedEnds.{piece_channels}
-use Rattle.ra_grand_laws.proofs.ServedParts.{piece_link, piece_changes}
 use Rattle.ra_grand_laws.proofs.WorksFit.{JobsFit}
-use Rattle.ra_grand_laws.proofs.WorldLinks.{IsHere, StandsAt, stands_at}
-use Rattle.ra_grand_laws.proofs.WorldSteps.{Changes, by_bool}
 
 abbrev Settled : Type 0
 Settled = ℕ → List (ℕ × Outcome)

@@ -6,12 +6,12 @@ use Rattle.ra_grand.specs.GrandClients.{Client}
 use Rattle.ra_grand.specs.GrandRuns.{run}
 use Rattle.ra_grand.specs.Grands.{Grand, new_grand}
 use Rattle.ra_grand.specs.Marks.{Entry}
+use Rattle.ra_run_laws.specs.Runs.{IsRun}
+use Rattle.ra_run_laws.proofs.Lists.{none_there}
+use Rattle.ra_link_laws.specs.Parts.{WorldKeeps}
 use Rattle.ra_grand_laws.specs.ChannelParts.{ChannelsKeep}
 use Rattle.ra_grand_laws.specs.Outcomes.{settled, fired}
-use Rattle.ra_grand_laws.specs.Parts.{WorldKeeps}
-use Rattle.ra_grand_laws.specs.Runs.{IsRun}
 use Rattle.ra_grand_laws.proofs.FittingRuns.{fits_run}
-use Rattle.ra_grand_laws.proofs.Lists.{none_there}
 
 pub channels_reached : (entries : List Entry) → IsRun entries → ChannelsKeep (run entries new_grand) (λ n. settled n entries new_grand) (λ n. fired n entries new_grand)
 channels_reached entries is = (fits_run entries is.fits is.keys is.requests).1

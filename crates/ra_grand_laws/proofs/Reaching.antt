@@ -14,12 +14,12 @@ use Rattle.ra_grand.specs.GrandClients.{GrandLink, Client}
 use Rattle.ra_grand.specs.GrandRuns.{run}
 use Rattle.ra_grand.specs.Grands.{Grand, new_grand}
 use Rattle.ra_grand.specs.Marks.{Entry}
+use Rattle.ra_run_laws.specs.Runs.{IsRun}
+use Rattle.ra_run_laws.proofs.Lists.{none_there, there_is}
+use Rattle.ra_link_laws.specs.Parts.{EndStands, IsSeated, IsAttached, StageKeeps, PartHolds, WorldKeeps}
 use Rattle.ra_grand_laws.specs.Ends.{BothHear, LinkHonest, HoldsLink, text_up, text_down, read_up, read_down}
-use Rattle.ra_grand_laws.specs.Parts.{EndStands, IsSeated, IsAttached, StageKeeps, PartHolds, WorldKeeps}
-use Rattle.ra_grand_laws.specs.Runs.{IsRun}
 use Rattle.ra_grand_laws.proofs.EndsOfParts.{both_hear, silent, link_honest, client_holds, server_holds}
 use Rattle.ra_grand_laws.proofs.FittingRuns.{fits_run}
-use Rattle.ra_grand_laws.proofs.Lists.{none_there, there_is}
 
 pub reached : (entries : List Entry) → IsRun entries → WorldKeeps (run entries new_grand)
 reached entries is = (fits_run entries is.fits is.keys is.requests).0

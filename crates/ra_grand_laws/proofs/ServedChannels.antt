@@ -33,16 +33,17 @@ use Rattle.ra_link_core.specs.HubEvents.{event_done, event_jobs, session_jobs, t
 use Rattle.ra_link_core.specs.HubEvents.HubEvent.{Attach, Turn, Close}
 use Rattle.ra_link_core.specs.LinkRuns.{End, refused_by, Serving, Welcome, writes, does, closes, ends_by, Turned, turn_by, turn_ended, turn_in, turned, turned_again, turns_for, served, attached_by, attached_in}
 use Rattle.ra_grand.specs.GrandClients.{GrandLink}
+use Rattle.ra_run_laws.proofs.Lists.{there_is}
+use Rattle.ra_link_laws.proofs.BadTurns.{second_is}
+use Rattle.ra_link_laws.proofs.HubMoves.{HubMoves, IsOwn, closed_by, turned_hub, attached_hub}
+use Rattle.ra_link_laws.proofs.SeatTurns.{TurnStands, Comes, made_admits, bad_admits, turned_stands, comes_nothing}
+use Rattle.ra_link_laws.proofs.ServedAdmissions.{attaches_going}
+use Rattle.ra_link_laws.proofs.ServedFocus.{Ground, Focus}
+use Rattle.ra_link_laws.proofs.ServedRuns.{link_after, Going, stands_going}
+use Rattle.ra_link_laws.proofs.ServedTurns.{seat_at, TurnsAt, turns_at}
 use Rattle.ra_grand_laws.specs.ChannelParts.{ChannelsOf, WorkFits}
 use Rattle.ra_grand_laws.specs.GoodEnds.{IsGoodEnd, IsGoodIfAny}
-use Rattle.ra_grand_laws.proofs.HubMoves.{HubMoves, IsOwn, closed_by, turned_hub, attached_hub}
-use Rattle.ra_grand_laws.proofs.Lists.{there_is}
-use Rattle.ra_grand_laws.proofs.SeatTurns.{TurnStands, Comes, first_other, made_admits, bad_admits, turned_stands, comes_nothing}
-use Rattle.ra_grand_laws.proofs.ServedAdmissions.{attaches_going}
-use Rattle.ra_grand_laws.proofs.ServedFocus.{Ground, Focus}
 use Rattle.ra_grand_laws.proofs.ServedHearing.{FedView, becomes_called, silent_end_if, becomes_turned, turn_fits, turn_good}
-use Rattle.ra_grand_laws.proofs.ServedRuns.{link_after, Going, stands_going}
-use Rattle.ra_grand_laws.proofs.ServedTurns.{seat_at, TurnsAt, turns_at}
 use Rattle.ra_grand_laws.proofs.WorksFit.{JobsFit, jobs_fit}
 
 -- the client's session, which is at the other end, and what it has handed up
@@ -104,7 +105,7 @@ fed_never epoch s stated is = fed_by s.cause _ _ s.peer.endpoint.epoch stated is
 long_admits : (epoch : ℕ) (piece : List ℕ) (now : ℕ) (s : Session) (stated : ℕ) → turn_refusal epoch piece now s ≡ Some (too_long stated) → feed_refusal epoch s ≡ None
 unfolding turn_refusal
 long_admits epoch piece now s stated is =
-    first_other (feed_refusal epoch s) (taken_refusal now (feed_session epoch piece now s)) (too_long stated) is (fed_never epoch s stated)
+    (second_is (feed_refusal epoch s) (taken_refusal now (feed_session epoch piece now s)) (too_long stated) (fed_never epoch s stated) is).0
 
 -- the session is on the link, and has what came
 pub fed_view : (g : Ground) (c : ClientEnd g) (h : Hub) (draw : ℕ → List ℕ) (bytes piece after : List ℕ) (now epoch j : ℕ) (s : Serving) (session : Session)

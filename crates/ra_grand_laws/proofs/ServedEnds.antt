@@ -31,21 +31,20 @@ use Rattle.ra_grand.specs.Grands.{Grand, Found}
 use Rattle.ra_grand.specs.Marks.{whole}
 use Rattle.ra_grand.specs.ServedLinks.{draw_at, serving_at, served, came_whole, left, settled as settled_link, piece_came}
 use Rattle.ra_grand.specs.SetUps.{grounds}
+use Rattle.ra_run_laws.proofs.Lists.{there_is}
+use Rattle.ra_handshake_laws.specs.Handshakes.{request_for, OpensAt}
+use Rattle.ra_link_laws.specs.Parts.{EndStands, WorldKeeps}
+use Rattle.ra_link_laws.proofs.HubMoves.{HubAdmits, IsOwn, lost_by, admitted_hub}
+use Rattle.ra_link_laws.proofs.ServedAdmissions.{IsNew, HasAsked, admitted_link, admits_going}
+use Rattle.ra_link_laws.proofs.ServedFocus.{Ground, Focus}
+use Rattle.ra_link_laws.proofs.ServedOpenings.{IsShaking, opened_now, first_draw, come, fronts, opens_now, new_now, asked_now}
+use Rattle.ra_link_laws.proofs.ServedParts.{IsFound, part_at, ground_at, focus_at, own_seat, plain, seat_comes, shaking_at}
+use Rattle.ra_link_laws.proofs.ServedRuns.{Going}
+use Rattle.ra_link_laws.proofs.ServedTurns.{seat_at}
 use Rattle.ra_grand_laws.specs.ChannelParts.{ChannelsOf}
 use Rattle.ra_grand_laws.specs.GoodEnds.{IsGoodIfAny}
-use Rattle.ra_grand_laws.specs.Handshakes.{request_for, OpensAt}
-use Rattle.ra_grand_laws.specs.Parts.{EndStands, WorldKeeps}
-use Rattle.ra_grand_laws.proofs.HubMoves.{HubAdmits, IsOwn, others_itself, lost_by, admitted_hub}
-use Rattle.ra_grand_laws.proofs.Lists.{there_is}
-use Rattle.ra_grand_laws.proofs.ServedAdmissions.{IsNew, HasAsked, admitted_link, admits_going}
 use Rattle.ra_grand_laws.proofs.ServedChannels.{ClientEnd, KeepsChannels, more_jobs, served_good, attached_good}
-use Rattle.ra_grand_laws.proofs.ServedFocus.{Ground, Focus}
 use Rattle.ra_grand_laws.proofs.ServedHearing.{becomes_called, becomes_admitted}
-use Rattle.ra_grand_laws.proofs.ServedOpenings.{IsShaking, opened_now, first_draw, come, fronts, opens_now, new_now, asked_now}
-use Rattle.ra_grand_laws.proofs.ServedParts.{IsFound, part_at, ground_at, focus_at, own_seat, plain, seat_comes}
-use Rattle.ra_grand_laws.proofs.ServedRuns.{Going}
-use Rattle.ra_grand_laws.proofs.ServedTexts.{follows_read}
-use Rattle.ra_grand_laws.proofs.ServedTurns.{seat_at}
 use Rattle.ra_grand_laws.proofs.WorksFit.{JobsFit}
 
 -- ---- the client asks for its session
@@ -146,17 +145,7 @@ piece_good g c w bytes k None x over fits is at held =
     let d = g.draws g.place in
     subst (λ (text : List ℕ). KeepsChannels g c (opening_came (opened (grounds (draw_at g.link w)) g.link.server.head text) text w.now s))
     (sym (plain g.owner d.reconnection d.key g.link.server.seen bytes g.link.server.head x.here.head))
-    (shaking_good g c w.hub (draws_after w.drawn) bytes w.now s (record {
-      kind = c.known;
-      focus = x;
-      others = others_itself g.owner w.hub;
-      over = over;
-      none = at;
-      seat = at;
-      welcome = refl;
-      goes_on = refl;
-      follows = follows_read g.link.link bytes k x.here.up is;
-    }) held)
+    (shaking_good g c w.hub (draws_after w.drawn) bytes w.now s (shaking_at g w bytes k c.known x over fits is at) held)
 piece_good g c w bytes k (Some seat) x over fits is at held =
     let own : seat.key ≡ g.owner = own_seat g.owner x.session_links x.present g.link g.link.server.is_over (Some seat) over (subst (λ (o : Option Seat). EndStands g.owner x.session_links x.present g.link g.link.server.is_over o) at x.here.end) in
     let same : seat_at g.owner seat.epoch ≡ seat = ap (λ (key : Key). seat_at key seat.epoch) (sym own) in

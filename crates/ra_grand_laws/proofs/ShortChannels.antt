@@ -25,22 +25,20 @@ use Rattle.ra_grand.specs.Grands.{Grand, Found}
 use Rattle.ra_grand.specs.Marks.{short}
 use Rattle.ra_grand.specs.ServedLinks.{draw_at, serving_at, served, piece_came}
 use Rattle.ra_grand.specs.SetUps.{grounds}
+use Rattle.ra_run_laws.proofs.Lists.{there_is}
+use Rattle.ra_handshake_laws.specs.Handshakes.{request_for, OpensAt}
+use Rattle.ra_link_laws.specs.Parts.{EndStands, WorldKeeps}
+use Rattle.ra_link_laws.proofs.ServedAdmissions.{IsNew, HasAsked, admitted_link, admits_going}
+use Rattle.ra_link_laws.proofs.ServedFocus.{Ground, Focus}
+use Rattle.ra_link_laws.proofs.ServedOpenings.{IsShaking, opened_now, first_draw, come, fronts, opens_now, new_now, asked_now}
+use Rattle.ra_link_laws.proofs.ServedParts.{IsFound, part_at, ground_at, focus_at, own_seat, plain, seat_comes, shaking_at}
+use Rattle.ra_link_laws.proofs.ServedRuns.{Going}
+use Rattle.ra_link_laws.proofs.ServedTurns.{seat_at}
 use Rattle.ra_grand_laws.specs.ChannelParts.{ChannelsOf}
-use Rattle.ra_grand_laws.specs.Handshakes.{request_for, OpensAt}
-use Rattle.ra_grand_laws.specs.Parts.{EndStands, WorldKeeps}
 use Rattle.ra_grand_laws.proofs.ChannelFronts.{HubHolds, fronts_taken, HoldsBetween, between_same, between_event, between_both, served_between, attached_between}
 use Rattle.ra_grand_laws.proofs.ChannelSteps.{left_becomes}
-use Rattle.ra_grand_laws.proofs.HubMoves.{others_itself}
-use Rattle.ra_grand_laws.proofs.Lists.{there_is}
-use Rattle.ra_grand_laws.proofs.ServedAdmissions.{IsNew, HasAsked, admitted_link, admits_going}
 use Rattle.ra_grand_laws.proofs.ServedChannels.{ClientEnd, KeepsChannels, more_jobs}
 use Rattle.ra_grand_laws.proofs.ServedEnds.{refuses_good, admits_good, come_good}
-use Rattle.ra_grand_laws.proofs.ServedFocus.{Ground, Focus}
-use Rattle.ra_grand_laws.proofs.ServedOpenings.{IsShaking, opened_now, first_draw, come, fronts, opens_now, new_now, asked_now}
-use Rattle.ra_grand_laws.proofs.ServedParts.{IsFound, part_at, ground_at, focus_at, own_seat, plain, seat_comes}
-use Rattle.ra_grand_laws.proofs.ServedRuns.{Going}
-use Rattle.ra_grand_laws.proofs.ServedTexts.{follows_read}
-use Rattle.ra_grand_laws.proofs.ServedTurns.{seat_at}
 use Rattle.ra_grand_laws.proofs.WorksFit.{JobsFit}
 
 -- ---- the client asks for its session
@@ -115,17 +113,7 @@ piece_between g c w bytes k None x over fits is at held =
     let d = g.draws g.place in
     subst (λ (text : List ℕ). HoldsBetween g c s (opening_came (opened (grounds (draw_at g.link w)) g.link.server.head text) text w.now s))
     (sym (plain g.owner d.reconnection d.key g.link.server.seen bytes g.link.server.head x.here.head))
-    (shaking_between g c w.hub (draws_after w.drawn) bytes w.now s (record {
-      kind = c.known;
-      focus = x;
-      others = others_itself g.owner w.hub;
-      over = over;
-      none = at;
-      seat = at;
-      welcome = refl;
-      goes_on = refl;
-      follows = follows_read g.link.link bytes k x.here.up is;
-    }) held)
+    (shaking_between g c w.hub (draws_after w.drawn) bytes w.now s (shaking_at g w bytes k c.known x over fits is at) held)
 piece_between g c w bytes k (Some seat) x over fits is at held =
     let s : Serving = serving_at g.link w in
     let own : seat.key ≡ g.owner = own_seat g.owner x.session_links x.present g.link g.link.server.is_over (Some seat) over (subst (λ (o : Option Seat). EndStands g.owner x.session_links x.present g.link g.link.server.is_over o) at x.here.end) in

@@ -19,16 +19,15 @@ use Rattle.ra_grand.specs.GrandClients.{GrandLink}
 use Rattle.ra_grand.specs.Grands.{Grand}
 use Rattle.ra_grand.specs.ServedLinks.{draw_at, serving_at, served}
 use Rattle.ra_grand.specs.SetUps.{grounds}
-use Rattle.ra_grand_laws.specs.Handshakes.{request_for, OpensAt, Speaks}
-use Rattle.ra_grand_laws.specs.Parts.{EndStands}
-use Rattle.ra_grand_laws.proofs.HubMoves.{others_itself}
-use Rattle.ra_grand_laws.proofs.ServedAdmissions.{IsNew, HasAsked}
-use Rattle.ra_grand_laws.proofs.ServedFocus.{Ground, Focus}
-use Rattle.ra_grand_laws.proofs.ServedOpenings.{IsShaking, fronts, opened_now, opens_now, come, new_now, speaks_answer, speaks_nothing, asked_now}
-use Rattle.ra_grand_laws.proofs.ServedParts.{own_seat, plain, start}
-use Rattle.ra_grand_laws.proofs.ServedRuns.{link_after, put_first}
-use Rattle.ra_grand_laws.proofs.ServedTexts.{IsPut, follows_read}
-use Rattle.ra_grand_laws.proofs.ServedTurns.{seat_at, put_nothing}
+use Rattle.ra_handshake_laws.specs.Handshakes.{request_for, OpensAt, Speaks}
+use Rattle.ra_link_laws.specs.Parts.{EndStands}
+use Rattle.ra_link_laws.proofs.ServedAdmissions.{IsNew, HasAsked}
+use Rattle.ra_link_laws.proofs.ServedFocus.{Ground, Focus}
+use Rattle.ra_link_laws.proofs.ServedOpenings.{IsShaking, fronts, opened_now, opens_now, come, new_now, speaks_answer, speaks_nothing, asked_now}
+use Rattle.ra_link_laws.proofs.ServedParts.{own_seat, plain, start, shaking_at}
+use Rattle.ra_link_laws.proofs.ServedRuns.{link_after, put_first}
+use Rattle.ra_link_laws.proofs.ServedTexts.{IsPut}
+use Rattle.ra_link_laws.proofs.ServedTurns.{seat_at, put_nothing}
 use Rattle.ra_grand_laws.proofs.ShortAdmissions.{Stopped, stopped_by, stop_new, unknown, asked_stopped}
 use Rattle.ra_grand_laws.proofs.ShortRuns.{IsSpoiled, Stops, stops_none}
 use Rattle.ra_grand_laws.proofs.ShortTurns.{served_stops}
@@ -132,17 +131,7 @@ piece_stopped g w bytes k calls None known x over fits is at =
     let d = g.draws g.place in
     subst (λ (text : List ℕ). PieceStopped g w bytes calls (opening_came (opened (grounds draw) g.link.server.head text) text w.now s))
     (sym (plain g.owner d.reconnection d.key g.link.server.seen bytes g.link.server.head x.here.head))
-    (shaking_stopped g w.hub (draws_after w.drawn) bytes w.now s calls (record {
-      kind = known;
-      focus = x;
-      others = others_itself g.owner w.hub;
-      over = over;
-      none = at;
-      seat = at;
-      welcome = refl;
-      goes_on = refl;
-      follows = follows_read g.link.link bytes k x.here.up is;
-    }) refl)
+    (shaking_stopped g w.hub (draws_after w.drawn) bytes w.now s calls (shaking_at g w bytes k known x over fits is at) refl)
 piece_stopped g w bytes k calls (Some seat) known x over fits is at =
     let own : seat.key ≡ g.owner =
     own_seat g.owner x.session_links x.present g.link g.link.server.is_over (Some seat) over (subst (λ (o : Option Seat). EndStands g.owner x.session_links x.present g.link g.link.server.is_over o) at x.here.end) in

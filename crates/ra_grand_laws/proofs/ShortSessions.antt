@@ -23,7 +23,7 @@ use Rattle.ra_session.specs.Sessions.{Session}
 use Rattle.ra_session.specs.Turns.{heard_at, on_heard, on_delivery, ended_by, take_in, take_turn, turn, taken_answer, turn_answer}
 use Rattle.ra_views.proofs.SessionLinks.{SameLink, same_said_all, same_emptied, link_feed}
 use Rattle.ra_views.proofs.SessionNumbers.{number_turn}
-use Rattle.ra_grand_laws.proofs.ServedTurns.{fed_on}
+use Rattle.ra_link_laws.proofs.ServedTurns.{fed_on}
 
 -- ---- a session, and the link with this number
 

@@ -1,13 +1,5 @@
-pub mod Handshakes
-pub mod Parts
-pub mod KeptRows
-pub mod Runs
-pub mod Rising
-pub mod Isolation
-pub mod Parted
 pub mod Ends
 pub mod Outcomes
 pub mod ChannelParts
 pub mod Settling
 pub mod GoodEnds
-pub mod SaidPackets

@@ -11,10 +11,11 @@ use Rattle.ra_channel_laws.specs.Channels.{settled_in, fired_in}
 use Rattle.ra_script.specs.declared.grand_line.GrandEvent.{GrandEvent}
 use Rattle.ra_script.specs.declared.grand_line.GrandEvent.TheVariants as events
 use Rattle.ra_grand.specs.GrandClients.{Client, dials}
-use Rattle.ra_grand.specs.GrandRefusals.{Refusal, refusal}
+use Rattle.ra_grand.specs.GrandRefusals.{refusal}
 use Rattle.ra_grand.specs.GrandRuns.{after}
 use Rattle.ra_grand.specs.Grands.{Grand}
 use Rattle.ra_grand.specs.Marks.{Entry}
+use Rattle.ra_run_laws.specs.Runs.{unless}
 
 -- what a dialer's act hands up
 abbrev pub happening_of : Act → Option Happening
@@ -41,10 +42,6 @@ settled_by n _ w = []
 unfoldable pub fired_by : ℕ → GrandEvent → Grand → List (ℕ × Tree)
 fired_by n (events.Frame m) w = if m == n then fired_in (framed w.now (at_number w.clients m)) else []
 fired_by n _ w = []
-
-abbrev pub unless : {X : Type 0} → Option Refusal → List X → List X
-unless None xs = xs
-unless (Some refused) xs = []
 
 -- over a run, in order
 abbrev pub settled : ℕ → List Entry → Grand → List (ℕ × Outcome)

@@ -1,71 +1,27 @@
 //! The laws.
-ghost use Rattle.std.specs.Prelude.{◌==◌, ◌≤◌, ◌≡◌, ◌≢◌, ℕ, Bool, List, [], ◌++◌, length, Option, Some, None, false};
-ghost use Rattle.std.specs.List.{AllByRecursion};
-ghost use Rattle.ra_base.specs.declared.key.Key.{Key};
+ghost use Rattle.std.specs.Prelude.{◌==◌, ◌≤◌, ◌≡◌, ◌≢◌, ℕ, List, [], length, Some, None, false};
 ghost use Rattle.ra_base.specs.declared.key.Cause.TheVariants.{BadIpc};
-ghost use Rattle.ra_base.specs.declared.kind.Kind.TheVariants.{Management, Tunnel};
-ghost use Rattle.ra_ipc.specs.ChannelLaws.{outcome, settled_as};
-ghost use Rattle.ra_ipc.specs.Messages.{number_of};
-ghost use Rattle.ra_link_core.specs.LinkRuns.{End};
-ghost use Rattle.ra_grand.specs.GrandEffects.{effect, moved};
-ghost use Rattle.ra_grand.specs.GrandRefusals.{refusal};
-ghost use Rattle.ra_grand_laws.specs.GoodEnds.{IsGoodEnd};
-ghost use Rattle.ra_grand_laws.specs.Settling.{Settles};
-ghost use Rattle.ra_opening.specs.Openings.{opened};
-ghost use Rattle.ra_link_core.specs.LinkRuns.{Welcome};
-ghost use Rattle.ra_dial.specs.Handshakes.{looked_at, fed};
-ghost use Rattle.ra_dial.specs.Clients.{new_shaking, request_of};
-ghost use Rattle.ra_dial.specs.ShakingStates.{ShakingState};
-ghost use Rattle.ra_grand.specs.SetUps.{settings_for, request_head, answer_head, grounds};
-ghost use Rattle.ra_grand.specs.Marks.{Entry};
-ghost use Rattle.ra_grand.specs.GrandClients.{GrandLink, Client};
-ghost use Rattle.ra_grand.specs.GrandEvents.{IsGrandEvent, Ran};
-ghost use Rattle.ra_grand.specs.declared.world.GrandWorld.{GrandWorld};
-ghost use Rattle.ra_grand.specs.Grands.{new_grand};
-ghost use Rattle.ra_script.specs.declared.grand_line.GrandEvent.{GrandEvent};
-ghost use Rattle.ra_session.specs.Sessions.{Session};
-ghost use Rattle.ra_dial.specs.declared.stage.Stage.TheVariants as stages;
+ghost use Rattle.ra_base.specs.declared.kind.Kind.TheVariants.{Management};
 ghost use Rattle.ra_base.specs.declared.key.Seat.{Seat};
 ghost use Rattle.ra_model.specs.Links.{at_number};
 ghost use Rattle.ra_model.specs.Pairs.{messages};
-ghost use Rattle.ra_grand_laws.specs.Ends.{BothHear, LinkHonest, HoldsLink, text_up, text_down, read_up, read_down};
+ghost use Rattle.ra_ipc.specs.ChannelLaws.{outcome, settled_as};
+ghost use Rattle.ra_ipc.specs.Messages.{number_of};
+ghost use Rattle.ra_session.specs.Sessions.{Session};
+ghost use Rattle.ra_link_core.specs.LinkRuns.{End, Welcome};
+ghost use Rattle.ra_dial.specs.declared.stage.Stage.TheVariants as stages;
+ghost use Rattle.ra_grand.specs.GrandEffects.{effect, moved};
+ghost use Rattle.ra_grand.specs.GrandRefusals.{refusal};
+ghost use Rattle.ra_grand.specs.Marks.{Entry};
+ghost use Rattle.ra_grand.specs.GrandClients.{GrandLink, Client};
+ghost use Rattle.ra_grand.specs.Grands.{new_grand};
 ghost use Rattle.ra_grand.specs.GrandRuns.{run};
-ghost use Rattle.ra_grand_laws.specs.SaidPackets.{without_initialize, packets_over};
+ghost use Rattle.ra_run_laws.specs.Runs.{IsRun};
+ghost use Rattle.ra_grand_laws.specs.GoodEnds.{IsGoodEnd};
+ghost use Rattle.ra_grand_laws.specs.Settling.{Settles};
+ghost use Rattle.ra_grand_laws.specs.Ends.{BothHear, LinkHonest, HoldsLink, text_up, text_down, read_up, read_down};
 ghost use Rattle.ra_grand_laws.specs.ChannelParts.{ChannelsKeep};
 ghost use Rattle.ra_grand_laws.specs.Outcomes.{settled, fired};
-ghost use Rattle.ra_grand_laws.specs.Isolation.{alone, view_of};
-ghost use Rattle.ra_grand_laws.specs.Parted.{SamePart};
-ghost use Rattle.ra_grand_laws.specs.Runs.{AreWhole, HaveKeys, IsRun};
-ghost use Rattle.ra_grand_laws.specs.Rising.{HubRises, ClientsRise};
-ghost use Rattle.ra_grand_laws.specs.Handshakes.{client_text, OpensAt, Speaks, ReadsHandshake, HasSaid, LooksTo};
-
-/// The opening of a link at the server, on a front of what its client writes: it asks for the client's session exactly where all was read,
-/// and what it writes depends on its first draw alone.
-pub fn openings()
-    ensures opens { (owner : Key) (reconnection : Bool) (key own theirs : List ℕ) (draw : ℕ → List ℕ) (text rest : List ℕ)
-        → owner.kind ≢ Tunnel → text ++ rest ≡ client_text owner reconnection key own theirs
-        → OpensAt owner reconnection key own theirs (draw 0) text
-        (opened (grounds draw) (request_head (settings_for owner) reconnection key) text).stage
-        (opened (grounds draw) (request_head (settings_for owner) reconnection key) text) }
-    ensures draws { (owner : Key) (reconnection : Bool) (key own theirs : List ℕ) (draw : ℕ → List ℕ) (text rest : List ℕ)
-        → owner.kind ≢ Tunnel → text ++ rest ≡ client_text owner reconnection key own theirs
-        → opened (grounds draw) (request_head (settings_for owner) reconnection key) text
-        ≡ opened (grounds (λ n. draw 0)) (request_head (settings_for owner) reconnection key) text }
-{}
-
-/// The handshake of a client on what such a server writes.
-pub fn handshakes()
-    ensures begins { (owner : Key) (reconnection : Bool) (key own : List ℕ)
-        → ReadsHandshake owner key own [] (new_shaking (settings_for owner) key own)
-        × HasSaid owner reconnection key own (request_of (settings_for owner) reconnection key)
-        (new_shaking (settings_for owner) key own).key (new_shaking (settings_for owner) key own).shake.has_answered }
-    ensures feeds { (owner : Key) (key own read piece : List ℕ) (s : ShakingState) → ReadsHandshake owner key own read s
-        → ReadsHandshake owner key own (read ++ piece) (fed piece s) }
-    ensures looks { (owner : Key) (reconnection : Bool) (key own read more out : List ℕ) (welcome : Option Welcome) (s : ShakingState)
-        → owner.kind ≢ Tunnel → ReadsHandshake owner key own read s → Speaks owner.kind key welcome out → read ++ more ≡ out
-        → LooksTo owner reconnection key own read welcome s
-        (looked_at (settings_for owner) (answer_head s.key s.unread) s).0 (looked_at (settings_for owner) (answer_head s.key s.unread) s).1 }
-{}
 
 /// In every run, also where memory ran out, a client and the session of its key are two ends: each has heard the first of the messages
 /// that the other said, each once and in order, and keeps what is not acknowledged. Before there is a session the client has heard nothing.
@@ -97,27 +53,6 @@ pub fn links()
         × HoldsLink (messages s.peer.endpoint) s.peer (text_down w l) (read_up w l) l.link.is_cut }
 {}
 
-/// What `run_grand` answers is such a run.
-pub fn accepted()
-    ensures { (events : List GrandEvent) (world : GrandWorld) (ran : Ran events world) → AllByRecursion IsGrandEvent events
-        → IsRun ran.entries }
-{}
-
-/// Nothing is taken back in a run: what was said and heard stays and only grows, and sent, received and acknowledged never fall. A client
-/// and a session of the server that are there stay there.
-pub fn rising()
-    ensures clients { (entries later : List Entry)
-        → ClientsRise (run entries new_grand) (run later (run entries new_grand)) }
-    ensures sessions { (entries later : List Entry)
-        → HubRises (run entries new_grand).hub (run later (run entries new_grand)).hub }
-{}
-
-/// Whatever others do, the part of a key is what the run of that part alone makes of what it sees.
-pub fn isolation()
-    ensures { (key : Key) (entries : List Entry) → AreWhole entries → HaveKeys entries
-        → SamePart key (run entries new_grand) (alone key (view_of key entries new_grand) new_grand) }
-{}
-
 /// In every run: what a client hands up is what a run of the channels at both ends hands up.
 pub fn channels()
     ensures { (entries : List Entry) → IsRun entries
@@ -147,12 +82,4 @@ pub fn settling()
 pub fn ends()
     ensures { (entries : List Entry) (entry : Entry) (bytes : List ℕ) (end : End) → IsRun entries → refusal entry.event (run entries new_grand) ≡ None
         → effect entry.mark entry.event (run entries new_grand) ≡ moved bytes (Some end) → IsGoodEnd end }
-{}
-
-/// In every run, whatever its marks, the packets that a session of the server has said, but for Initialize, are those of the tools' answers
-/// that it was told, each behind the events that it fired for the listeners of that moment, and the answers to calls that waited too long
-/// for their channel, in order.
-pub fn answers()
-    ensures { (entries : List Entry) (key : Key) (s : Session) → (run entries new_grand).hub.session key ≡ Some s
-        → without_initialize s.packets ≡ packets_over key entries new_grand }
 {}

@@ -1,5 +1,0 @@
-use Rattle.ra_grand_laws.proofs.RunKeys.{accepted_run}
-use Rattle.ra_grand_laws.proofs.laws.accepted.Goals as goal
-
-pub returns : goal.returns
-returns c = accepted_run

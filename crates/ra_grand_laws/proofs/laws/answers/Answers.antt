@@ -1,5 +1,0 @@
-use Rattle.ra_grand_laws.proofs.RunPackets.{packets_of_run}
-use Rattle.ra_grand_laws.proofs.laws.answers.Goals as goal
-
-pub returns : goal.returns
-returns c = packets_of_run

@@ -1,5 +1,0 @@
-use Rattle.ra_grand_laws.proofs.Handshaking.{begins, feeds, looks}
-use Rattle.ra_grand_laws.proofs.laws.handshakes.Goals as goal
-
-pub returns : goal.returns
-returns c = record { begins = begins; feeds = feeds; looks = looks }

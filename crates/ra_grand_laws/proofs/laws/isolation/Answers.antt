@@ -1,6 +1,0 @@
-use Rattle.ra_grand_laws.proofs.Folding.{keeps_new, keeps_after}
-use Rattle.ra_grand_laws.proofs.IsolatedRuns.{isolated}
-use Rattle.ra_grand_laws.proofs.laws.isolation.Goals as goal
-
-pub returns : goal.returns
-returns c = isolated keeps_after keeps_new

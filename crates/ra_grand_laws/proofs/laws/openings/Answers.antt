@@ -1,5 +1,0 @@
-use Rattle.ra_grand_laws.proofs.OpenedFronts.{opens, draws}
-use Rattle.ra_grand_laws.proofs.laws.openings.Goals as goal
-
-pub returns : goal.returns
-returns c = record { opens = opens; draws = draws }

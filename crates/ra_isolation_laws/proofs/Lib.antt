@@ -1,0 +1,14 @@
+pub mod IsolatedHubs
+pub mod IsolatedJobs
+pub mod IsolatedPieces
+pub mod OthersPieces
+pub mod IsolatedOpenings
+pub mod IsolatedClaims
+pub mod IsolatedWorlds
+pub mod IsolatedClients
+pub mod IsolatedLinks
+pub mod IsolatedUps
+pub mod IsolatedArrivals
+pub mod IsolatedSweeps
+pub mod IsolatedWork
+pub mod IsolatedRuns

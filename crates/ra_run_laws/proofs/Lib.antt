@@ -1,0 +1,9 @@
+pub mod Lists
+pub mod KeptRows
+pub mod RisingHubs
+pub mod RisingClients
+pub mod Rising
+pub mod RunKeys
+pub mod SessionPackets
+pub mod HubPackets
+pub mod RunPackets

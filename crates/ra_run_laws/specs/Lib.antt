@@ -1,0 +1,4 @@
+pub mod KeptRows
+pub mod Runs
+pub mod Rising
+pub mod SaidPackets
