@@ -25,12 +25,12 @@ PROMISES = [
     ("two endpoints over any links: each has heard a prefix of what the other said, each message once and in order, and keeps what is not acknowledged",
      [("ra_model", "pair")]),
     ("the same of a world of two endpoints in memory", [("ra_world", "run_world"), ("ra_world", "World::apply")]),
-    ("the same of each client and its session at the server, in every run", [(r"ra_grand\w*", "both_ends")]),
-    ("nothing is taken back in a run", [(r"ra_grand\w*", "rising")]),
-    ("each call settles at most once, by its own answer or cancel", [(r"ra_grand\w*", "settling")]),
-    ("whatever others do, a client and its session are what they are alone", [(r"ra_grand\w*", "isolation")]),
-    ("what a grand world in memory does is such a run", [(r"ra_grand\w*", "run_grand"), (r"ra_grand\w*", "GrandWorld::apply"), (r"ra_grand\w*", "accepted")]),
-    ("the bytes, calls of the hub, jobs and end of one served connection", [(r"ra_link\w*|ra_serve\w*", "serve_link")]),
+    ("the same of each client and its session at the server, in every run", [("ra_grand_laws", "both_ends")]),
+    ("nothing is taken back in a run", [("ra_run_laws", "rising")]),
+    ("each call settles at most once, by its own answer or cancel", [("ra_grand_laws", "settling")]),
+    ("whatever others do, a client and its session are what they are alone", [("ra_isolation_laws", "isolation")]),
+    ("what a grand world in memory does is such a run", [("ra_grand", "run_grand"), ("ra_grand", "GrandWorld::apply"), ("ra_run_laws", "accepted")]),
+    ("the bytes, calls of the hub, jobs and end of one served connection", [("ra_link", "serve_link")]),
     ("what each command prints, and its status", [("ra_commands", "run_plain")]),
 ]
 
