@@ -14,8 +14,8 @@ use Rattle.ra_link.specs.LinkRuns.{Welcome}
 use Rattle.ra_dial.specs.declared.stage.Stage.{Stage}
 use Rattle.ra_dial.specs.declared.stage.Stage.TheVariants as stages
 use Rattle.ra_dial.specs.ShakingStates.{ShakingState}
-use Rattle.ra_grand.specs.GrandClients.{GrandLink, Client}
-use Rattle.ra_grand.specs.Grands.{with_link}
+use Rattle.ra_grand_runs.specs.GrandClients.{GrandLink, Client}
+use Rattle.ra_grand_runs.specs.Grands.{with_link}
 use Rattle.ra_grand_laws.specs.Parts.{Drawn, HasWelcome, Shakes, IsAttached, StageKeeps, PartHolds}
 use Rattle.ra_grand_laws.proofs.ClientGrounds.{ground_of, part_made}
 use Rattle.ra_grand_laws.proofs.ClientLinks.{links_cut, last_put}

@@ -30,8 +30,8 @@ use Rattle.ra_dial.specs.Attempts.{begins}
 use Rattle.ra_dial.specs.Calling.{is_calling}
 use Rattle.ra_dial.specs.Clients.{Settings, request_of, new_shaking}
 use Rattle.ra_dial.specs.Table.{step, on_event, is_late, draws_by}
-use Rattle.ra_grand.specs.GrandClients.{Client, dialled, fresh_link, linked, new_client}
-use Rattle.ra_grand.specs.SetUps.{context}
+use Rattle.ra_grand_runs.specs.GrandClients.{Client, dialled, fresh_link, linked, new_client}
+use Rattle.ra_grand_runs.specs.SetUps.{context}
 use Rattle.ra_grand_laws.specs.Handshakes.{ReadsHandshake, HasSaid}
 use Rattle.ra_grand_laws.specs.Parts.{Drawn, PartHolds}
 use Rattle.ra_grand_laws.proofs.Handshaking.{begins as handshake_begins}

@@ -6,8 +6,8 @@ use Rattle.ra_base.specs.declared.key.Key.{Key}
 use Rattle.ra_model.specs.Links.{Link, at_number, put_number, readable, read_on, written_to, cut_off}
 use Rattle.ra_model.proofs.Numbers.{get_within}
 use Rattle.ra_link.specs.LinkRuns.{Welcome}
-use Rattle.ra_grand.specs.GrandClients.{GrandLink, writes_up}
-use Rattle.ra_grand.specs.Lasts.{with_last_of, with_last}
+use Rattle.ra_grand_runs.specs.GrandClients.{GrandLink, writes_up}
+use Rattle.ra_grand_runs.specs.Lasts.{with_last_of, with_last}
 use Rattle.ra_grand_laws.specs.Parts.{Drawn, Carries, IsWelcome, HasWelcome, LinkKeeps, HasLast}
 use Rattle.ra_grand_laws.proofs.ClientGrounds.{LinksKeep}
 use Rattle.ra_grand_laws.proofs.SessionLinkMoves.{Backs, SameTexts, CutBy, link_renewed, link_cut, link_down, link_up}

@@ -19,9 +19,9 @@ use Rattle.ra_dial.specs.Dialers.{Dialer}
 use Rattle.ra_dial.specs.Handshakes.{Look, is_open, goes_on, fails as spoils, refuses, accepts, looked_at, taken_by}
 use Rattle.ra_dial.specs.Links.{after_look, shakes}
 use Rattle.ra_dial.specs.ShakingStates.{ShakingState}
-use Rattle.ra_grand.specs.GrandClients.{GrandLink, Client}
-use Rattle.ra_grand.specs.Reached.{Begins, read_of}
-use Rattle.ra_grand.specs.SetUps.{answer_head}
+use Rattle.ra_grand_runs.specs.GrandClients.{GrandLink, Client}
+use Rattle.ra_grand_runs.specs.Reached.{Begins, read_of}
+use Rattle.ra_grand_runs.specs.SetUps.{answer_head}
 use Rattle.ra_grand_laws.specs.Handshakes.{HasSaid, LooksTo}
 use Rattle.ra_grand_laws.specs.Parts.{Drawn, IsWelcome, HasWelcome, Shakes}
 use Rattle.ra_grand_laws.proofs.Handshaking.{looks}

@@ -24,10 +24,10 @@ use Rattle.ra_dial.specs.Handshakes.{fed_to, fed}
 use Rattle.ra_dial.specs.Links.{feeds_unless, feeds_attached}
 use Rattle.ra_dial.specs.ShakingStates.{ShakingState}
 use Rattle.ra_dial.specs.Table.{step, on_event, is_late, draws_by}
-use Rattle.ra_grand.specs.GrandClients.{GrandLink, Client, dialled}
-use Rattle.ra_grand.specs.GrandRuns.{takes}
-use Rattle.ra_grand.specs.Grands.{with_link}
-use Rattle.ra_grand.specs.Reached.{read_of}
+use Rattle.ra_grand_runs.specs.GrandClients.{GrandLink, Client, dialled}
+use Rattle.ra_grand_runs.specs.GrandRuns.{takes}
+use Rattle.ra_grand_runs.specs.Grands.{with_link}
+use Rattle.ra_grand_runs.specs.Reached.{read_of}
 use Rattle.ra_grand_laws.specs.Handshakes.{ReadsHandshake, HasSaid}
 use Rattle.ra_grand_laws.specs.Parts.{Drawn, Carries, Shakes, IsAttached, StageKeeps, HasLast, PartHolds}
 use Rattle.ra_grand_laws.proofs.Handshaking.{feeds}

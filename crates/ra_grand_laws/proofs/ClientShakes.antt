@@ -11,9 +11,9 @@ use Rattle.ra_dial.specs.declared.stage.Stage.TheVariants as stages
 use Rattle.ra_dial.specs.Acts.{Act}
 use Rattle.ra_dial.specs.Dialers.{Dialer}
 use Rattle.ra_dial.specs.ShakingStates.{ShakingState}
-use Rattle.ra_grand.specs.GrandClients.{GrandLink, Client, writes_up}
-use Rattle.ra_grand.specs.Lasts.{with_last}
-use Rattle.ra_grand.specs.Reached.{Begins, read_of}
+use Rattle.ra_grand_runs.specs.GrandClients.{GrandLink, Client, writes_up}
+use Rattle.ra_grand_runs.specs.Lasts.{with_last}
+use Rattle.ra_grand_runs.specs.Reached.{Begins, read_of}
 use Rattle.ra_grand_laws.specs.Handshakes.{client_text, ReadsHandshake, HasSaid}
 use Rattle.ra_grand_laws.specs.Parts.{LinkKeeps, PartHolds}
 use Rattle.ra_grand_laws.proofs.Lists.{get_same}

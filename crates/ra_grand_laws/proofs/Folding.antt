@@ -20,13 +20,13 @@ use Rattle.ra_views.proofs.SessionLinks.{link_call, link_listen, link_cancel, li
 use Rattle.ra_views.proofs.SessionMoves.{keeps_call, keeps_listen, keeps_cancel, keeps_dispose, keeps_say}
 use Rattle.ra_script.specs.declared.grand_line.GrandEvent.{GrandEvent}
 use Rattle.ra_script.specs.declared.grand_line.GrandEvent.TheVariants as events
-use Rattle.ra_grand.specs.GrandClients.{Client, dialled, linked, asked}
-use Rattle.ra_grand.specs.GrandRefusals.{Refusal, not_dialling, link_over, of_client, if_over, if_unread, if_not_dialling, refusal}
-use Rattle.ra_grand.specs.GrandRuns.{on_dialer, links, bytes_up, bytes_down, takes, comes_down, cuts, happens, unless, after}
-use Rattle.ra_grand.specs.Grands.{Grand, Found, with_client, with_link, new_grand}
-use Rattle.ra_grand.specs.Marks.{Mark, whole, short, unticked, Entry}
-use Rattle.ra_grand.specs.Reached.{BringsNothing}
-use Rattle.ra_grand.specs.ServedLinks.{piece_came, server_left}
+use Rattle.ra_grand_runs.specs.GrandClients.{Client, dialled, linked, asked}
+use Rattle.ra_grand_runs.specs.GrandRefusals.{Refusal, not_dialling, link_over, of_client, if_over, if_unread, if_not_dialling, refusal}
+use Rattle.ra_grand_runs.specs.GrandRuns.{on_dialer, links, bytes_up, bytes_down, takes, comes_down, cuts, happens, unless, after}
+use Rattle.ra_grand_runs.specs.Grands.{Grand, Found, with_client, with_link, new_grand}
+use Rattle.ra_grand_runs.specs.Marks.{Mark, whole, short, unticked, Entry}
+use Rattle.ra_grand_runs.specs.Reached.{BringsNothing}
+use Rattle.ra_grand_runs.specs.ServedLinks.{piece_came, server_left}
 use Rattle.ra_grand_laws.specs.Parts.{PartHolds, WorldKeeps}
 use Rattle.ra_grand_laws.specs.Runs.{IsUnbroken, HasKey}
 use Rattle.ra_grand_laws.proofs.ClientCuts.{part_cut}

@@ -18,7 +18,7 @@ use Rattle.ra_shake.proofs.MadeLemmas.{made_len}
 use Rattle.ra_opening.specs.Verdicts.{refusal_bytes, acceptance_bytes}
 use Rattle.ra_link.specs.LinkRuns.{Welcome, pause_bytes}
 use Rattle.ra_dial.specs.Handshakes.{in_frame}
-use Rattle.ra_grand.specs.SetUps.{secret}
+use Rattle.ra_grand_runs.specs.SetUps.{secret}
 use Rattle.ra_grand_laws.specs.Handshakes.{greeting, Speaks}
 use Rattle.ra_grand_laws.proofs.FrameFronts.{is_control}
 

@@ -15,11 +15,11 @@ use Rattle.ra_session.specs.Sessions.{Session}
 use Rattle.ra_hub.specs.Hubs.{Hub, row, at_key, missed}
 use Rattle.ra_hub.specs.Jobs.{SeenJob}
 use Rattle.ra_hub.specs.Sweeps.{swept, tick_one, grace_is_over}
-use Rattle.ra_grand.specs.GrandClients.{Client}
-use Rattle.ra_grand.specs.Grands.{Grand}
-use Rattle.ra_grand.specs.GrandSweeps.{expired_keys, left_by, sweeps}
-use Rattle.ra_grand.specs.Marks.{Mark}
-use Rattle.ra_grand.specs.Works.{Telling, answers, speaks, told, telling, telling_refusal, Told, told_to, told_by, session_by, unless_ended, misses, tells, without_job, work_by, worked}
+use Rattle.ra_grand_runs.specs.GrandClients.{Client}
+use Rattle.ra_grand_runs.specs.Grands.{Grand}
+use Rattle.ra_grand_runs.specs.GrandSweeps.{expired_keys, left_by, sweeps}
+use Rattle.ra_grand_runs.specs.Marks.{Mark}
+use Rattle.ra_grand_runs.specs.Works.{Telling, answers, speaks, told, telling, telling_refusal, Told, told_to, told_by, session_by, unless_ended, misses, tells, without_job, work_by, worked}
 use Rattle.ra_grand_laws.specs.KeptRows.{RowsAgree}
 use Rattle.ra_grand_laws.specs.Parts.{PartHolds, WorldKeeps}
 use Rattle.ra_grand_laws.proofs.KeptRows.{agree_itself, entry_agrees, expiries_agree}

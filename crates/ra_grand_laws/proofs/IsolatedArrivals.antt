@@ -16,13 +16,13 @@ use Rattle.ra_hub.specs.Jobs.{SeenJob}
 use Rattle.ra_link.specs.LinkRuns.{Serving, Welcome, hub_left}
 use Rattle.ra_script.specs.declared.grand_line.GrandEvent.{GrandEvent}
 use Rattle.ra_script.specs.declared.grand_line.GrandEvent.TheVariants as events
-use Rattle.ra_grand.specs.Draws.{draws_after, own_then, first_draws}
-use Rattle.ra_grand.specs.GrandClients.{GrandLink, Client}
-use Rattle.ra_grand.specs.GrandRefusals.{Refusal, link_over, of_link, if_over, if_unread}
-use Rattle.ra_grand.specs.GrandRuns.{bytes_up}
-use Rattle.ra_grand.specs.Grands.{Grand, Found, find_link, on_link}
-use Rattle.ra_grand.specs.Marks.{whole}
-use Rattle.ra_grand.specs.ServedLinks.{draw_at, served, came_whole, left, settled, end_after, piece_came}
+use Rattle.ra_grand_runs.specs.Draws.{draws_after, own_then, first_draws}
+use Rattle.ra_grand_runs.specs.GrandClients.{GrandLink, Client}
+use Rattle.ra_grand_runs.specs.GrandRefusals.{Refusal, link_over, of_link, if_over, if_unread}
+use Rattle.ra_grand_runs.specs.GrandRuns.{bytes_up}
+use Rattle.ra_grand_runs.specs.Grands.{Grand, Found, find_link, on_link}
+use Rattle.ra_grand_runs.specs.Marks.{whole}
+use Rattle.ra_grand_runs.specs.ServedLinks.{draw_at, served, came_whole, left, settled, end_after, piece_came}
 use Rattle.ra_grand_laws.specs.Isolation.{Sight, judged, drawn_by, is_admit, jobs_for, piece_seen, up_seen, piece_drawn, own_after, alone}
 use Rattle.ra_grand_laws.proofs.IsolatedHubs.{Agree, agree_trans, Shortens, agree_left, other_left, own_shortens, agree_shortened}
 use Rattle.ra_grand_laws.proofs.IsolatedLinks.{by_found, link_own, link_other}

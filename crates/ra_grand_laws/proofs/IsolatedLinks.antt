@@ -12,11 +12,11 @@ use Rattle.ra_hub.specs.Hubs.{row}
 use Rattle.ra_link.specs.LinkRuns.{hub_left}
 use Rattle.ra_dial.specs.declared.values.DialEvent.TheVariants as dial_events
 use Rattle.ra_script.specs.declared.grand_line.GrandEvent.TheVariants as events
-use Rattle.ra_grand.specs.Draws.{first_draws}
-use Rattle.ra_grand.specs.GrandClients.{GrandLink, Client}
-use Rattle.ra_grand.specs.GrandRuns.{bytes_down, takes, comes_down, cuts, happens}
-use Rattle.ra_grand.specs.Grands.{Grand, Place, Found, changed, found_link, found_client, found_at, find_link, on_link}
-use Rattle.ra_grand.specs.ServedLinks.{draw_at, server_left}
+use Rattle.ra_grand_runs.specs.Draws.{first_draws}
+use Rattle.ra_grand_runs.specs.GrandClients.{GrandLink, Client}
+use Rattle.ra_grand_runs.specs.GrandRuns.{bytes_down, takes, comes_down, cuts, happens}
+use Rattle.ra_grand_runs.specs.Grands.{Grand, Place, Found, changed, found_link, found_client, found_at, find_link, on_link}
+use Rattle.ra_grand_runs.specs.ServedLinks.{draw_at, server_left}
 use Rattle.ra_grand_laws.specs.Isolation.{jobs_for, if_own, link_seen, alone}
 use Rattle.ra_grand_laws.specs.Parts.{EndStands, PartHolds}
 use Rattle.ra_grand_laws.proofs.IsolatedClaims.{claims_on, moves_link}

@@ -8,10 +8,10 @@ use Rattle.ra_views.proofs.SessionLinks.{link_call, link_listen, link_cancel, li
 use Rattle.ra_dial.specs.declared.values.DialEvent.TheVariants as dial_events
 use Rattle.ra_script.specs.declared.grand_line.GrandEvent.{GrandEvent}
 use Rattle.ra_script.specs.declared.grand_line.GrandEvent.TheVariants as events
-use Rattle.ra_grand.specs.GrandRefusals.{Refusal, refusal}
-use Rattle.ra_grand.specs.GrandRuns.{happens, unless, after, run}
-use Rattle.ra_grand.specs.Grands.{Grand, new_grand}
-use Rattle.ra_grand.specs.Marks.{Mark, whole, short, unticked, Entry}
+use Rattle.ra_grand_runs.specs.GrandRefusals.{Refusal, refusal}
+use Rattle.ra_grand_runs.specs.GrandRuns.{happens, unless, after, run}
+use Rattle.ra_grand_runs.specs.Grands.{Grand, new_grand}
+use Rattle.ra_grand_runs.specs.Marks.{Mark, whole, short, unticked, Entry}
 use Rattle.ra_grand_laws.specs.Isolation.{Sight, moment, seen, unless_refused, view_of, alone_after, alone}
 use Rattle.ra_grand_laws.specs.Parted.{SamePart}
 use Rattle.ra_grand_laws.specs.Parts.{WorldKeeps}

@@ -16,12 +16,12 @@ use Rattle.ra_hub.specs.Hubs.{Hub, row}
 use Rattle.ra_hub.specs.Jobs.{SeenJob}
 use Rattle.ra_link.specs.LinkRuns.{Serving, Welcome, served as served_by, asked, opening_by, opening_came, with_piece, turns_for, piece_by, piece_done}
 use Rattle.ra_link.proofs.GrowLemmas.{grows_asked}
-use Rattle.ra_grand.specs.Draws.{draws_after, own_then}
-use Rattle.ra_grand.specs.GrandClients.{GrandLink, Client}
-use Rattle.ra_grand.specs.Grands.{Grand}
-use Rattle.ra_grand.specs.Reached.{read_of}
-use Rattle.ra_grand.specs.ServedLinks.{draw_at, serving_at, served}
-use Rattle.ra_grand.specs.SetUps.{settings_for, request_head, grounds}
+use Rattle.ra_grand_runs.specs.Draws.{draws_after, own_then}
+use Rattle.ra_grand_runs.specs.GrandClients.{GrandLink, Client}
+use Rattle.ra_grand_runs.specs.Grands.{Grand}
+use Rattle.ra_grand_runs.specs.Reached.{read_of}
+use Rattle.ra_grand_runs.specs.ServedLinks.{draw_at, serving_at, served}
+use Rattle.ra_grand_runs.specs.SetUps.{settings_for, request_head, grounds}
 use Rattle.ra_grand_laws.specs.Handshakes.{client_text, request_for, OpensAt}
 use Rattle.ra_grand_laws.specs.Isolation.{drawn_by, jobs_for}
 use Rattle.ra_grand_laws.specs.Parts.{Drawn, HasWelcome, IsOpening, EndStands, LinkKeeps, PartHolds}

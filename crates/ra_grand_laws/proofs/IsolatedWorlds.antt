@@ -8,8 +8,8 @@ use Rattle.ra_registry.proofs.SameKeys.{same_key_itself}
 use Rattle.ra_session.specs.Sessions.{Session}
 use Rattle.ra_hub.specs.Hubs.{row}
 use Rattle.ra_hub.specs.Jobs.{SeenJob}
-use Rattle.ra_grand.specs.GrandClients.{GrandLink, Client}
-use Rattle.ra_grand.specs.Grands.{Grand, Place, Found, found_at, found_client, found_link, find_link}
+use Rattle.ra_grand_runs.specs.GrandClients.{GrandLink, Client}
+use Rattle.ra_grand_runs.specs.Grands.{Grand, Place, Found, found_at, found_client, found_link, find_link}
 use Rattle.ra_grand_laws.specs.Isolation.{jobs_for}
 use Rattle.ra_grand_laws.specs.Parted.{SamePart, clients_for}
 use Rattle.ra_grand_laws.specs.Parts.{PartHolds, WorldKeeps}

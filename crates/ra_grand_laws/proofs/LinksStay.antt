@@ -4,7 +4,7 @@ use Rattle.ra_base.specs.declared.key.Key.{Key}
 use Rattle.ra_base.specs.declared.key.Seat.{Seat}
 use Rattle.ra_model.specs.Links.{Link, at_number, put_number}
 use Rattle.ra_link.specs.LinkRuns.{Welcome}
-use Rattle.ra_grand.specs.GrandClients.{GrandLink}
+use Rattle.ra_grand_runs.specs.GrandClients.{GrandLink}
 use Rattle.ra_grand_laws.specs.Parts.{Drawn, IsWelcome, HasWelcome, EndStands, LinkKeeps}
 use Rattle.ra_grand_laws.proofs.Lists.{there_is, put_other, number_front}
 

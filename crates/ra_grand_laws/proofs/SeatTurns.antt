@@ -17,8 +17,8 @@ use Rattle.ra_session.specs.Turns.{TurnAnswer, turn, turn_answer}
 use Rattle.ra_hub.specs.Hubs.{Hub, row}
 use Rattle.ra_link.specs.HubEvents.HubEvent.{Turn}
 use Rattle.ra_link.specs.LinkRuns.{End, refused_by, Serving, writes, does, ends_by, Turned, stops, turn_by, turn_ended, turn_in, turned, turned_again, served}
-use Rattle.ra_grand.specs.GrandClients.{GrandLink}
-use Rattle.ra_grand.specs.Reached.{Begins}
+use Rattle.ra_grand_runs.specs.GrandClients.{GrandLink}
+use Rattle.ra_grand_runs.specs.Reached.{Begins}
 use Rattle.ra_grand_laws.specs.Parts.{IsSeated}
 use Rattle.ra_grand_laws.proofs.Lists.{none_there}
 use Rattle.ra_grand_laws.proofs.HubMoves.{HubMoves, IsOwn, others_trans, turned_hub}

@@ -25,9 +25,9 @@ use Rattle.ra_hub.specs.Hubs.{Hub, row}
 use Rattle.ra_link.specs.HubEvents.HubEvent.{Admit, Attach}
 use Rattle.ra_link.specs.LinkRuns.{request_refused, refused_by, Serving, Welcome, writes, does, ends_by, turns_for, attached_by, attached_in, attached, pause_bytes, welcomed, asked_by, asked}
 use Rattle.ra_views.specs.SessionViews.{link_with}
-use Rattle.ra_grand.specs.GrandClients.{GrandLink}
-use Rattle.ra_grand.specs.Reached.{Begins}
-use Rattle.ra_grand.specs.ServedLinks.{left}
+use Rattle.ra_grand_runs.specs.GrandClients.{GrandLink}
+use Rattle.ra_grand_runs.specs.Reached.{Begins}
+use Rattle.ra_grand_runs.specs.ServedLinks.{left}
 use Rattle.ra_grand_laws.specs.Handshakes.{client_text, greeting, request_for, Speaks}
 use Rattle.ra_grand_laws.specs.Parts.{Drawn, Carries, IsWelcome, IsSeated, LinkKeeps}
 use Rattle.ra_grand_laws.proofs.HubMoves.{OthersStay, HubMoves, HubCalls, HubAdmits, IsOwn, others_trans, refused_hub, admitted_hub, attached_hub, left_hub, next_is}

@@ -32,7 +32,7 @@ use Rattle.ra_channel_laws.proofs.Silence.{silent_attach}
 use Rattle.ra_link.specs.HubEvents.{event_done, event_jobs, session_jobs, turn_jobs}
 use Rattle.ra_link.specs.HubEvents.HubEvent.{Attach, Turn, Close}
 use Rattle.ra_link.specs.LinkRuns.{End, refused_by, Serving, Welcome, writes, does, closes, ends_by, Turned, turn_by, turn_ended, turn_in, turned, turned_again, turns_for, served, attached_by, attached_in}
-use Rattle.ra_grand.specs.GrandClients.{GrandLink}
+use Rattle.ra_grand_runs.specs.GrandClients.{GrandLink}
 use Rattle.ra_grand_laws.specs.ChannelParts.{ChannelsOf, WorkFits}
 use Rattle.ra_grand_laws.specs.GoodEnds.{IsGoodEnd, IsGoodIfAny}
 use Rattle.ra_grand_laws.proofs.HubMoves.{HubMoves, IsOwn, closed_by, turned_hub, attached_hub}

@@ -26,11 +26,11 @@ use Rattle.ra_channel_laws.proofs.Silence.{silent_lose}
 use Rattle.ra_link.specs.HubEvents.{event_done, event_jobs, judged_by}
 use Rattle.ra_link.specs.HubEvents.HubEvent.{Admit, Lose}
 use Rattle.ra_link.specs.LinkRuns.{request_refused, Serving, Welcome, writes, does, ends_by, attached, asked_by, asked, opening_by, opening_came, with_piece, piece_by, piece_done, turns_for, hub_left, served as served_by}
-use Rattle.ra_grand.specs.Draws.{draws_after, own_then}
-use Rattle.ra_grand.specs.Grands.{Grand, Found}
-use Rattle.ra_grand.specs.Marks.{whole}
-use Rattle.ra_grand.specs.ServedLinks.{draw_at, serving_at, served, came_whole, left, settled as settled_link, piece_came}
-use Rattle.ra_grand.specs.SetUps.{grounds}
+use Rattle.ra_grand_runs.specs.Draws.{draws_after, own_then}
+use Rattle.ra_grand_runs.specs.Grands.{Grand, Found}
+use Rattle.ra_grand_runs.specs.Marks.{whole}
+use Rattle.ra_grand_runs.specs.ServedLinks.{draw_at, serving_at, served, came_whole, left, settled as settled_link, piece_came}
+use Rattle.ra_grand_runs.specs.SetUps.{grounds}
 use Rattle.ra_grand_laws.specs.ChannelParts.{ChannelsOf}
 use Rattle.ra_grand_laws.specs.GoodEnds.{IsGoodIfAny}
 use Rattle.ra_grand_laws.specs.Handshakes.{request_for, OpensAt}

@@ -20,7 +20,7 @@ use Rattle.ra_session.specs.Sessions.{Session}
 use Rattle.ra_views.specs.SessionViews.{link_with}
 use Rattle.ra_views.proofs.OtherLinks.{view_made, view_anew}
 use Rattle.ra_link.specs.LinkRuns.{Welcome}
-use Rattle.ra_grand.specs.GrandClients.{GrandLink}
+use Rattle.ra_grand_runs.specs.GrandClients.{GrandLink}
 use Rattle.ra_grand_laws.specs.KeptRows.{RowsAgree}
 use Rattle.ra_grand_laws.specs.Parts.{HasWelcome, IsWelcome, LinkKeeps, IsServer, WritesWhole}
 use Rattle.ra_grand_laws.proofs.LinksStay.{link_elsewhere, link_more}

@@ -24,9 +24,9 @@ use Rattle.ra_opening.proofs.LawLemmas.{written_stays}
 use Rattle.ra_dial.specs.Handshakes.{in_frame}
 use Rattle.ra_hub.specs.Hubs.{Hub, row}
 use Rattle.ra_link.specs.LinkRuns.{Serving, Welcome, asked, opening_by, opening_came}
-use Rattle.ra_grand.specs.Draws.{own_then, first_draws}
-use Rattle.ra_grand.specs.GrandClients.{GrandLink}
-use Rattle.ra_grand.specs.SetUps.{secret, grounds}
+use Rattle.ra_grand_runs.specs.Draws.{own_then, first_draws}
+use Rattle.ra_grand_runs.specs.GrandClients.{GrandLink}
+use Rattle.ra_grand_runs.specs.SetUps.{secret, grounds}
 use Rattle.ra_grand_laws.specs.Handshakes.{client_text, greeting, request_for, OpensAt, Speaks}
 use Rattle.ra_grand_laws.specs.Parts.{Drawn, HasWelcome, IsWaiting, opening_of, IsOpening, LinkKeeps}
 use Rattle.ra_grand_laws.proofs.HubMoves.{OthersStay, same_hub}

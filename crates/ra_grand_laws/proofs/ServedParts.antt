@@ -14,12 +14,12 @@ use Rattle.ra_hub.specs.Hubs.{row}
 use Rattle.ra_opening.specs.Openings.{opened}
 use Rattle.ra_session.specs.Sessions.{Session}
 use Rattle.ra_link.specs.LinkRuns.{Serving, with_piece, piece_by, piece_done, opening_came, turns_for, served as served_by}
-use Rattle.ra_grand.specs.Draws.{draws_after}
-use Rattle.ra_grand.specs.GrandClients.{GrandLink}
-use Rattle.ra_grand.specs.Grands.{Grand, Found, with_link}
-use Rattle.ra_grand.specs.Marks.{whole}
-use Rattle.ra_grand.specs.ServedLinks.{draw_at, serving_at, served, came_whole, left, settled, put_served, piece_came, server_left}
-use Rattle.ra_grand.specs.SetUps.{settings_for, request_head, grounds}
+use Rattle.ra_grand_runs.specs.Draws.{draws_after}
+use Rattle.ra_grand_runs.specs.GrandClients.{GrandLink}
+use Rattle.ra_grand_runs.specs.Grands.{Grand, Found, with_link}
+use Rattle.ra_grand_runs.specs.Marks.{whole}
+use Rattle.ra_grand_runs.specs.ServedLinks.{draw_at, serving_at, served, came_whole, left, settled, put_served, piece_came, server_left}
+use Rattle.ra_grand_runs.specs.SetUps.{settings_for, request_head, grounds}
 use Rattle.ra_grand_laws.specs.Parts.{EndStands, IsSeated, PartHolds, WorldKeeps}
 use Rattle.ra_grand_laws.proofs.HubMoves.{IsOwn, others_itself}
 use Rattle.ra_grand_laws.proofs.SeatTurns.{Comes, served_stands}

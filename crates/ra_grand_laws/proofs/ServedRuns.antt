@@ -11,9 +11,9 @@ use Rattle.ra_hub.specs.Hubs.{Hub, row}
 use Rattle.ra_link.specs.HubEvents.{event_done}
 use Rattle.ra_link.specs.HubEvents.HubEvent.{Close}
 use Rattle.ra_link.specs.LinkRuns.{End, Serving, Welcome, closes, ends_by, hub_left}
-use Rattle.ra_grand.specs.GrandClients.{GrandLink}
-use Rattle.ra_grand.specs.Reached.{Begins}
-use Rattle.ra_grand.specs.ServedLinks.{left, end_after}
+use Rattle.ra_grand_runs.specs.GrandClients.{GrandLink}
+use Rattle.ra_grand_runs.specs.Reached.{Begins}
+use Rattle.ra_grand_runs.specs.ServedLinks.{left, end_after}
 use Rattle.ra_grand_laws.specs.Handshakes.{Speaks}
 use Rattle.ra_grand_laws.proofs.HubMoves.{OthersStay, HubMoves, HubCalls, IsOwn, others_trans, closed_hub, left_hub}
 use Rattle.ra_grand_laws.proofs.ServedFocus.{Ground, Focus}

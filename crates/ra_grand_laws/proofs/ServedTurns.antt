@@ -27,8 +27,8 @@ use Rattle.ra_views.proofs.SessionNumbers.{number_turn, number_attach}
 use Rattle.ra_views.proofs.SessionsRise.{rises_turn, rises_attach}
 use Rattle.ra_opening.specs.Verdicts.{acceptance_bytes}
 use Rattle.ra_link.specs.LinkRuns.{Welcome}
-use Rattle.ra_grand.specs.GrandClients.{GrandLink}
-use Rattle.ra_grand.specs.Reached.{Agrees}
+use Rattle.ra_grand_runs.specs.GrandClients.{GrandLink}
+use Rattle.ra_grand_runs.specs.Reached.{Agrees}
 use Rattle.ra_grand_laws.specs.Handshakes.{greeting, Speaks}
 use Rattle.ra_grand_laws.specs.Parts.{Carries, HasWelcome, IsWelcome, IsSeated, WritesWhole}
 use Rattle.ra_grand_laws.proofs.Lists.{there_is, number_same}

@@ -19,7 +19,7 @@ use Rattle.ra_link.specs.HubEvents.HubEvent.{Admit, Attach}
 use Rattle.ra_link.specs.LinkRuns.{request_refused, refused_by, Serving, Welcome, writes, does, ends_by, turns_for, attached_by, attached_in, attached, asked_by, asked}
 use Rattle.ra_link.specs.Makes.{Writes}
 use Rattle.ra_link.proofs.GrowLemmas.{writes_trans, writes_same, writes_refl}
-use Rattle.ra_grand.specs.GrandClients.{GrandLink}
+use Rattle.ra_grand_runs.specs.GrandClients.{GrandLink}
 use Rattle.ra_grand_laws.specs.Handshakes.{request_for, Speaks}
 use Rattle.ra_grand_laws.proofs.HubMoves.{HubMoves, others_trans, same_hub, attached_hub, next_is}
 use Rattle.ra_grand_laws.proofs.Lists.{there_is, none_there}

@@ -20,11 +20,11 @@ use Rattle.ra_hub.specs.Jobs.{SeenJob}
 use Rattle.ra_link.specs.HubEvents.{HubEvent, events_done, events_jobs, seats_by}
 use Rattle.ra_link.specs.HubEvents.HubEvent.{Admit}
 use Rattle.ra_link.specs.LinkRuns.{request_refused, Serving, Welcome, writes, does, ends_by, attached, asked_by, asked, opening_by, opening_came, with_piece, piece_by, piece_done, turns_for, hub_left, served as served_by}
-use Rattle.ra_grand.specs.Draws.{draws_after, own_then}
-use Rattle.ra_grand.specs.Grands.{Grand, Found}
-use Rattle.ra_grand.specs.Marks.{short}
-use Rattle.ra_grand.specs.ServedLinks.{draw_at, serving_at, served, piece_came}
-use Rattle.ra_grand.specs.SetUps.{grounds}
+use Rattle.ra_grand_runs.specs.Draws.{draws_after, own_then}
+use Rattle.ra_grand_runs.specs.Grands.{Grand, Found}
+use Rattle.ra_grand_runs.specs.Marks.{short}
+use Rattle.ra_grand_runs.specs.ServedLinks.{draw_at, serving_at, served, piece_came}
+use Rattle.ra_grand_runs.specs.SetUps.{grounds}
 use Rattle.ra_grand_laws.specs.ChannelParts.{ChannelsOf}
 use Rattle.ra_grand_laws.specs.Handshakes.{request_for, OpensAt}
 use Rattle.ra_grand_laws.specs.Parts.{EndStands, WorldKeeps}

@@ -16,8 +16,8 @@ use Rattle.ra_registry.specs.declared.row.Row.{Row}
 use Rattle.ra_session.specs.Sessions.{Session}
 use Rattle.ra_hub.specs.Hubs.{Hub, row}
 use Rattle.ra_link.specs.LinkRuns.{Serving, Welcome}
-use Rattle.ra_grand.specs.GrandClients.{GrandLink}
-use Rattle.ra_grand.specs.Reached.{Begins}
+use Rattle.ra_grand_runs.specs.GrandClients.{GrandLink}
+use Rattle.ra_grand_runs.specs.Reached.{Begins}
 use Rattle.ra_grand_laws.specs.Handshakes.{Speaks}
 use Rattle.ra_grand_laws.specs.Parts.{Drawn, HasWelcome, IsWelcome, IsServer, LinkKeeps, WritesWhole}
 use Rattle.ra_grand_laws.proofs.HubMoves.{OthersStay}

@@ -14,11 +14,11 @@ use Rattle.ra_hub.specs.Hubs.{Hub, row}
 use Rattle.ra_link.specs.LinkRuns.{Serving, with_piece, piece_by, piece_done, turns_for, asked, opening_end, opening_by, opening_came, served as served_by}
 use Rattle.ra_link.specs.Makes.{Writes}
 use Rattle.ra_link.proofs.GrowLemmas.{writes_same, writes_refl}
-use Rattle.ra_grand.specs.Draws.{draws_after, own_then}
-use Rattle.ra_grand.specs.GrandClients.{GrandLink}
-use Rattle.ra_grand.specs.Grands.{Grand}
-use Rattle.ra_grand.specs.ServedLinks.{draw_at, serving_at, served}
-use Rattle.ra_grand.specs.SetUps.{grounds}
+use Rattle.ra_grand_runs.specs.Draws.{draws_after, own_then}
+use Rattle.ra_grand_runs.specs.GrandClients.{GrandLink}
+use Rattle.ra_grand_runs.specs.Grands.{Grand}
+use Rattle.ra_grand_runs.specs.ServedLinks.{draw_at, serving_at, served}
+use Rattle.ra_grand_runs.specs.SetUps.{grounds}
 use Rattle.ra_grand_laws.specs.Handshakes.{request_for, OpensAt, Speaks}
 use Rattle.ra_grand_laws.specs.Parts.{EndStands}
 use Rattle.ra_grand_laws.proofs.HubMoves.{others_itself}

@@ -8,12 +8,12 @@ use Rattle.ra_model.specs.Links.{Link, at_number, readable}
 use Rattle.ra_hub.specs.Hubs.{Hub, row}
 use Rattle.ra_link.specs.HubEvents.{HubEvent, events_bytes, events_done}
 use Rattle.ra_link.specs.LinkRuns.{Serving, Welcome, hub_left}
-use Rattle.ra_grand.specs.Fits.{IsPart}
-use Rattle.ra_grand.specs.GrandClients.{GrandLink}
-use Rattle.ra_grand.specs.Grands.{Grand, Found, with_link}
-use Rattle.ra_grand.specs.Marks.{short}
-use Rattle.ra_grand.specs.Reached.{Begins}
-use Rattle.ra_grand.specs.ServedLinks.{draw_at, serving_at, served, came, left, piece_came}
+use Rattle.ra_grand_runs.specs.Fits.{IsPart}
+use Rattle.ra_grand_runs.specs.GrandClients.{GrandLink}
+use Rattle.ra_grand_runs.specs.Grands.{Grand, Found, with_link}
+use Rattle.ra_grand_runs.specs.Marks.{short}
+use Rattle.ra_grand_runs.specs.Reached.{Begins}
+use Rattle.ra_grand_runs.specs.ServedLinks.{draw_at, serving_at, served, came, left, piece_came}
 use Rattle.ra_grand_laws.specs.Parts.{HasWelcome, IsWelcome, WorldKeeps}
 use Rattle.ra_grand_laws.proofs.Lists.{there_is}
 use Rattle.ra_grand_laws.proofs.ServedFocus.{Ground, Focus}

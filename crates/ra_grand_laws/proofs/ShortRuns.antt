@@ -15,7 +15,7 @@ use Rattle.ra_link.specs.HubEvents.HubEvent.{Lose, Close}
 use Rattle.ra_link.specs.LinkRuns.{End, refused_by, Serving, Welcome, does, hub_left}
 use Rattle.ra_link.specs.Makes.{Writes}
 use Rattle.ra_link.proofs.GrowLemmas.{writes_trans, writes_refl}
-use Rattle.ra_grand.specs.ServedLinks.{left}
+use Rattle.ra_grand_runs.specs.ServedLinks.{left}
 use Rattle.ra_grand_laws.proofs.HubMoves.{lost_by, closed_by}
 use Rattle.ra_grand_laws.proofs.ServedFocus.{Ground}
 use Rattle.ra_grand_laws.proofs.ServedRuns.{link_after, Going}

@@ -17,7 +17,7 @@ use Rattle.ra_link.specs.HubEvents.HubEvent.{Turn, Close}
 use Rattle.ra_link.specs.LinkRuns.{End, refused_by, Serving, writes, does, closes, ends_by, Turned, stops, turn_by, turn_ended, turn_in, turned, turned_again, served}
 use Rattle.ra_link.specs.Makes.{Writes}
 use Rattle.ra_link.proofs.GrowLemmas.{writes_same, writes_refl}
-use Rattle.ra_grand.specs.ServedLinks.{left}
+use Rattle.ra_grand_runs.specs.ServedLinks.{left}
 use Rattle.ra_grand_laws.proofs.HubMoves.{IsOwn, turned_hub}
 use Rattle.ra_grand_laws.proofs.ServedFocus.{Ground}
 use Rattle.ra_grand_laws.proofs.ServedRuns.{link_after, Going, stands_going, ends_so, closes_so}

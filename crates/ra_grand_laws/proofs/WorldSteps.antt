@@ -7,8 +7,8 @@ use Rattle.ra_registry.specs.declared.row.Row.{Row}
 use Rattle.ra_registry.specs.Rows.{same_key}
 use Rattle.ra_session.specs.Sessions.{Session}
 use Rattle.ra_hub.specs.Hubs.{row}
-use Rattle.ra_grand.specs.GrandClients.{Client}
-use Rattle.ra_grand.specs.Grands.{Grand}
+use Rattle.ra_grand_runs.specs.GrandClients.{Client}
+use Rattle.ra_grand_runs.specs.Grands.{Grand}
 use Rattle.ra_grand_laws.specs.KeptRows.{RowsAgree}
 use Rattle.ra_grand_laws.specs.Parts.{PartHolds, WorldKeeps}
 use Rattle.ra_grand_laws.proofs.Lists.{there_is, same_or_not, get_same, get_other}
