@@ -3,13 +3,13 @@ use Rattle.std.proofs.Common.{◌≡◌, ℕ, Option, Some, None, List, [], ◌�
 use Rattle.ra_base.specs.declared.key.Key.{Key}
 use Rattle.ra_script.specs.declared.grand_line.GrandEvent.{GrandEvent}
 use Rattle.ra_script.specs.declared.grand_line.GrandEvent.TheVariants as events
-use Rattle.ra_grand.specs.GrandEffects.{swept, effect, moved_up}
-use Rattle.ra_grand.specs.GrandRuns.{happens, bytes_up}
-use Rattle.ra_grand.specs.Grands.{Grand, Found, find_link, on_link}
-use Rattle.ra_grand.specs.GrandSweeps.{expired_keys, swept_hub, sweeps}
-use Rattle.ra_grand.specs.Marks.{Mark, whole, short, unticked}
-use Rattle.ra_grand.specs.ServedLinks.{piece_came}
-use Rattle.ra_commands.specs.GrandLines.{IsWhole}
+use Rattle.ra_grand_runs.specs.GrandEffects.{swept, effect, moved_up}
+use Rattle.ra_grand_runs.specs.GrandRuns.{happens, bytes_up}
+use Rattle.ra_grand_runs.specs.Grands.{Grand, Found, find_link, on_link}
+use Rattle.ra_grand_runs.specs.GrandSweeps.{expired_keys, swept_hub, sweeps}
+use Rattle.ra_grand_runs.specs.Marks.{Mark, whole, short, unticked}
+use Rattle.ra_grand_runs.specs.ServedLinks.{piece_came}
+use Rattle.agent.specs.GrandLines.{IsWhole}
 
 abbrev AsWhole : Mark → GrandEvent → Grand → Type 0
 AsWhole mark event w = (effect mark event w ≡ effect whole event w) × (happens mark event w ≡ happens whole event w)

@@ -1,23 +1,23 @@
 -- What a line of a grand script does in a world in memory.
 use Rattle.std.specs.Prelude.{◌≡◌, ◌≢◌, ◌≤◌, Bool, None, List, ℕ, ◌++◌, length, Result, Ok, Err}
 use Rattle.ra_script.specs.declared.grand_line.GrandEvent.TheVariants.{Frame}
-use Rattle.ra_grand.specs.declared.effect.GrandEffect.{GrandEffect}
-use Rattle.ra_grand.specs.declared.fault.GrandFault.{GrandFault}
-use Rattle.ra_grand.specs.declared.fault.GrandFault.TheVariants.{NoMemory}
+use Rattle.ra_grand_runs.specs.declared.effect.GrandEffect.{GrandEffect}
+use Rattle.ra_grand_runs.specs.declared.fault.GrandFault.{GrandFault}
+use Rattle.ra_grand_runs.specs.declared.fault.GrandFault.TheVariants.{NoMemory}
 use Rattle.ra_grand.specs.declared.world.GrandWorld.{GrandWorld}
-use Rattle.ra_grand.specs.GrandEffects.{effect}
-use Rattle.ra_grand.specs.GrandRefusals.{refusal}
-use Rattle.ra_grand.specs.GrandRuns.{happens}
-use Rattle.ra_grand.specs.Grands.{Grand}
+use Rattle.ra_grand_runs.specs.GrandEffects.{effect}
+use Rattle.ra_grand_runs.specs.GrandRefusals.{refusal}
+use Rattle.ra_grand_runs.specs.GrandRuns.{happens}
+use Rattle.ra_grand_runs.specs.Grands.{Grand}
 use Rattle.ra_grand.specs.GrandStates.{StandsForGrand}
-use Rattle.ra_grand.specs.GrandViews.{IsCause, effect_of}
-use Rattle.ra_grand.specs.Marks.{whole}
-use Rattle.ra_endpoint_commands.specs.declared.read_whole.Input.{Input}
-use Rattle.ra_endpoint_commands.specs.declared.read_whole.Input.TheVariants.{Whole, Over}
-use Rattle.ra_commands.specs.Grand.{GrandStep, goes_on}
-use Rattle.ra_commands.specs.GrandLines.{effect_text, made_word}
-use Rattle.ra_endpoint_commands.specs.Lines.{line}
-use Rattle.ra_endpoint_commands.specs.Replay.{script_limit}
+use Rattle.ra_grand_runs.specs.GrandViews.{IsCause, effect_of}
+use Rattle.ra_grand_runs.specs.Marks.{whole}
+use Rattle.agent.specs.declared.read_whole.Input.{Input}
+use Rattle.agent.specs.declared.read_whole.Input.TheVariants.{Whole, Over}
+use Rattle.agent.specs.Grand.{GrandStep, goes_on}
+use Rattle.agent.specs.GrandLines.{effect_text, made_word}
+use Rattle.agent.specs.Lines.{line}
+use Rattle.agent.specs.Replay.{script_limit}
 
 -- the world behind it stands for the step's, and the text has its lines
 pub record GrandMakes (world : GrandWorld) (before behind : List ℕ) (step : GrandStep) : Type 0 where

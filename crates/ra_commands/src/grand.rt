@@ -1,10 +1,10 @@
 //! The command `grand`: runs a script over a hub, its clients and the links between them, and prints what each line does.
 ghost use Rattle.std.specs.Prelude.{◌≡◌, ◌≢◌, ◌++◌, ◌<◌, ◌^◌, length, Some, Err, OnErr, OnOk, IfOk};
 ghost use Rattle.ra_grand.specs.GrandEvents.{IsGrandEvent};
-ghost use Rattle.ra_grand.specs.GrandRefusals.{Refusal};
+ghost use Rattle.ra_grand_runs.specs.GrandRefusals.{Refusal};
 ghost use Rattle.ra_grand.specs.GrandStates.{StandsForGrand};
-ghost use Rattle.ra_grand.specs.GrandViews.{IsCause};
-ghost use Rattle.ra_grand.specs.Grands as worlds;
+ghost use Rattle.ra_grand_runs.specs.GrandViews.{IsCause};
+ghost use Rattle.ra_grand_runs.specs.Grands as worlds;
 ghost use Rattle.ra_ports.specs.Causes.{Rose};
 ghost use Rattle.ra_ports.specs.Texts.{Told, WroteFront};
 ghost use Rattle.ra_script.specs.GrandLines.{OfEvent, OfEvents};

@@ -16,16 +16,16 @@ use Rattle.ra_dial.specs.declared.values.DialEvent.{DialEvent}
 use Rattle.ra_dial.specs.declared.values.DialEvent.TheVariants as dial_events
 use Rattle.ra_script.specs.declared.grand_line.GrandEvent.{GrandEvent}
 use Rattle.ra_script.specs.declared.grand_line.GrandEvent.TheVariants as events
-use Rattle.ra_grand.specs.declared.effect.GrandEffect.{GrandEffect}
-use Rattle.ra_grand.specs.declared.fault.GrandFault.{GrandFault}
-use Rattle.ra_grand.specs.Fits.{MovesFit, EventFits}
-use Rattle.ra_grand.specs.GrandEffects.{Effect, done, made, outcome, act_of, next_id, moved_up, moved_down, effect}
-use Rattle.ra_grand.specs.GrandRefusals.{of_link, if_over, if_unread, of_client, if_taken, if_not_dialling, unrefused, if_session, refusal}
-use Rattle.ra_grand.specs.GrandRuns.{joins, on_dialer, on_session, links, bytes_up, bytes_down, comes_down, cuts, happens}
-use Rattle.ra_grand.specs.GrandViews.{Answers, Applies, effect_of}
-use Rattle.ra_grand.specs.Grands.{Grand, Found, find_link, on_link}
-use Rattle.ra_grand.specs.Marks.{Mark, whole}
-use Rattle.ra_grand.specs.ServedLinks.{piece_came, server_left}
+use Rattle.ra_grand_runs.specs.declared.effect.GrandEffect.{GrandEffect}
+use Rattle.ra_grand_runs.specs.declared.fault.GrandFault.{GrandFault}
+use Rattle.ra_grand_runs.specs.Fits.{MovesFit, EventFits}
+use Rattle.ra_grand_runs.specs.GrandEffects.{Effect, done, made, outcome, act_of, next_id, moved_up, moved_down, effect}
+use Rattle.ra_grand_runs.specs.GrandRefusals.{of_link, if_over, if_unread, of_client, if_taken, if_not_dialling, unrefused, if_session, refusal}
+use Rattle.ra_grand_runs.specs.GrandRuns.{joins, on_dialer, on_session, links, bytes_up, bytes_down, comes_down, cuts, happens}
+use Rattle.ra_grand_runs.specs.GrandViews.{Answers, Applies, effect_of}
+use Rattle.ra_grand_runs.specs.Grands.{Grand, Found, find_link, on_link}
+use Rattle.ra_grand_runs.specs.Marks.{Mark, whole}
+use Rattle.ra_grand_runs.specs.ServedLinks.{piece_came, server_left}
 
 -- ---- marks
 

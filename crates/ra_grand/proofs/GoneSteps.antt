@@ -12,34 +12,34 @@ use Rattle.ra_link_core.specs.LinkRuns.{hub_left}
 use Rattle.ra_link_core.specs.Cores.{seat_in}
 use Rattle.ra_link_core.specs.declared.phase.Phase.{Phase}
 use Rattle.ra_link_core.specs.declared.phase.Phase.TheVariants as phases
-use Rattle.ra_grand.specs.declared.effect.GrandEffect.{GrandEffect}
-use Rattle.ra_grand.specs.declared.effect.GrandEffect.TheVariants as grand_effects
-use Rattle.ra_grand.specs.declared.fault.GrandFault.{GrandFault}
+use Rattle.ra_grand_runs.specs.declared.effect.GrandEffect.{GrandEffect}
+use Rattle.ra_grand_runs.specs.declared.effect.GrandEffect.TheVariants as grand_effects
+use Rattle.ra_grand_runs.specs.declared.fault.GrandFault.{GrandFault}
 use Rattle.ra_grand.specs.declared.spot.Spot.{Spot}
 use Rattle.ra_grand.specs.declared.world.GrandWorld.{GrandWorld}
-use Rattle.ra_grand.specs.ClientLinks.{LinkTurns, LinkTurnsAt}
-use Rattle.ra_grand.specs.ClientStates.{ClientState}
-use Rattle.ra_grand.specs.Crowds.{ClientsStand}
-use Rattle.ra_grand.specs.Draws.{draws_after}
-use Rattle.ra_grand.specs.GrandClients.{ServerEnd}
-use Rattle.ra_grand.specs.GrandEffects.{done}
-use Rattle.ra_grand.specs.GrandRefusals.{Refusal, link_over, of_link, if_over}
+use Rattle.ra_grand_clients.specs.ClientLinks.{LinkTurns, LinkTurnsAt}
+use Rattle.ra_grand_clients.specs.ClientStates.{ClientState}
+use Rattle.ra_grand_clients.specs.Crowds.{ClientsStand}
+use Rattle.ra_grand_runs.specs.Draws.{draws_after}
+use Rattle.ra_grand_runs.specs.GrandClients.{ServerEnd}
+use Rattle.ra_grand_runs.specs.GrandEffects.{done}
+use Rattle.ra_grand_runs.specs.GrandRefusals.{Refusal, link_over, of_link, if_over}
 use Rattle.ra_grand.specs.GrandStates.{StandsForGrand}
-use Rattle.ra_grand.specs.GrandViews.{IsCause, Answers}
-use Rattle.ra_grand.specs.Grands.{Grand, Found, find_link, on_link, put_link}
-use Rattle.ra_grand.specs.Pieces.{LeavesAt, left_state}
-use Rattle.ra_grand.specs.ServedLinks.{serving_at, left, server_left}
-use Rattle.ra_grand.specs.ServerStates.{GoesAs}
+use Rattle.ra_grand_runs.specs.GrandViews.{IsCause, Answers}
+use Rattle.ra_grand_runs.specs.Grands.{Grand, Found, find_link, on_link, put_link}
+use Rattle.ra_grand_server.specs.Pieces.{LeavesAt, left_state}
+use Rattle.ra_grand_runs.specs.ServedLinks.{serving_at, left, server_left}
+use Rattle.ra_grand_server.specs.ServerStates.{GoesAs}
 use Rattle.ra_grand.specs.Servings.{WaitsAt}
 use Rattle.ra_grand.specs.Spots.{FoundAt}
-use Rattle.ra_grand.proofs.CrowdHolding.{holds_one}
-use Rattle.ra_grand.proofs.CrowdLemmas.{turns_at}
-use Rattle.ra_grand.proofs.LinkSteps.{follows}
-use Rattle.ra_grand.proofs.LinkTurnLemmas.{turned}
+use Rattle.ra_grand_runs.proofs.CrowdHolding.{holds_one}
+use Rattle.ra_grand_clients.proofs.CrowdLemmas.{turns_at}
+use Rattle.ra_grand_runs.proofs.LinkSteps.{follows}
+use Rattle.ra_grand_clients.proofs.LinkTurnLemmas.{turned}
 use Rattle.ra_grand.proofs.ReceiveSteps.{nothing_put, turned_to}
-use Rattle.ra_grand.proofs.ServedHolding.{after_bytes, link_there, left_keeps}
+use Rattle.ra_grand_runs.proofs.ServedHolding.{after_bytes, link_there, left_keeps}
 use Rattle.ra_grand.proofs.ServingSteps.{link_of, world_put, exchanged_so, unless_none}
-use Rattle.ra_grand.proofs.SpotLemmas.{get_less}
+use Rattle.ra_grand_clients.proofs.LinkCounts.{get_less}
 
 -- ---- nothing changes on the link
 

@@ -13,24 +13,24 @@ use Rattle.ra_hub.specs.Jobs.{SeenJob, seen}
 use Rattle.ra_hub.specs.declared.hub.Swept.{Swept}
 use Rattle.ra_hub.specs.declared.jobs.Job.{Job}
 use Rattle.ra_script.specs.declared.grand_line.GrandEvent.TheVariants as events
-use Rattle.ra_grand.specs.declared.effect.GrandEffect.TheVariants as seen_effects
-use Rattle.ra_grand.specs.declared.fault.GrandFault.{GrandFault}
-use Rattle.ra_grand.specs.declared.fault.GrandFault.TheVariants as grand_faults
+use Rattle.ra_grand_runs.specs.declared.effect.GrandEffect.TheVariants as seen_effects
+use Rattle.ra_grand_runs.specs.declared.fault.GrandFault.{GrandFault}
+use Rattle.ra_grand_runs.specs.declared.fault.GrandFault.TheVariants as grand_faults
 use Rattle.ra_grand.specs.declared.world.GrandWorld.{GrandWorld}
-use Rattle.ra_grand.specs.Crowds.{ClientsStand}
-use Rattle.ra_grand.specs.GrandClients.{Client}
-use Rattle.ra_grand.specs.GrandEffects.{swept, effect}
-use Rattle.ra_grand.specs.GrandRefusals.{no_such_job, by_session, of_job, refusal}
-use Rattle.ra_grand.specs.GrandRuns.{happens}
-use Rattle.ra_grand.specs.Grands.{Grand}
+use Rattle.ra_grand_clients.specs.Crowds.{ClientsStand}
+use Rattle.ra_grand_runs.specs.GrandClients.{Client}
+use Rattle.ra_grand_runs.specs.GrandEffects.{swept, effect}
+use Rattle.ra_grand_runs.specs.GrandRefusals.{no_such_job, by_session, of_job, refusal}
+use Rattle.ra_grand_runs.specs.GrandRuns.{happens}
+use Rattle.ra_grand_runs.specs.Grands.{Grand}
 use Rattle.ra_grand.specs.GrandStates.{StandsForGrand, IsIndex}
-use Rattle.ra_grand.specs.GrandSweeps.{expired_keys, sweeps}
-use Rattle.ra_grand.specs.GrandViews.{Applies, IsCause}
-use Rattle.ra_grand.specs.Marks.{whole}
-use Rattle.ra_grand.specs.Reached.{ClientsHold}
-use Rattle.ra_grand.specs.ServerCalls.{Sweeps, Works}
-use Rattle.ra_grand.specs.ServerStates.{ServerState, StandsForServer}
-use Rattle.ra_grand.specs.Works.{Told, Telling, told_by, told_refusal, unless_ended, misses, tells, without_job, work_by, worked}
+use Rattle.ra_grand_runs.specs.GrandSweeps.{expired_keys, sweeps}
+use Rattle.ra_grand_runs.specs.GrandViews.{Applies, IsCause}
+use Rattle.ra_grand_runs.specs.Marks.{whole}
+use Rattle.ra_grand_runs.specs.Reached.{ClientsHold}
+use Rattle.ra_grand_server.specs.ServerCalls.{Sweeps, Works}
+use Rattle.ra_grand_server.specs.ServerStates.{ServerState, StandsForServer}
+use Rattle.ra_grand_runs.specs.Works.{Told, Telling, told_by, told_refusal, unless_ended, misses, tells, without_job, work_by, worked}
 
 -- the moment and the clients are the same
 abbrev Same : Grand → Grand → Type 0

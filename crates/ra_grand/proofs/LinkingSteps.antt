@@ -1,66 +1,33 @@
 -- What a link that a client makes, and one that it can't have, make of a world.
-use Rattle.std.proofs.Common.{◌≡◌, ℕ, zero, suc, ◌+◌, ◌<◌, ◌≤◌, Bool, true, false, cond, Option, Some, None, List, [], ◌∷◌, ◌++◌, length, take, map, refl, ap, sym, ◌∙◌, subst, arith}
+use Rattle.std.proofs.Common.{◌≡◌, ℕ, zero, suc, ◌+◌, ◌<◌, Bool, true, false, cond, Option, Some, None, List, [], ◌∷◌, ◌++◌, length, take, map, refl, ap, sym, ◌∙◌, subst, arith}
 use Rattle.std.proofs.lemmas.List.{map-append, take_at, length_push}
 use Rattle.std.specs.Prelude.{nat_lt, slice_get, slice_set}
-use Rattle.ra_base.specs.declared.key.Seat.{Seat}
-use Rattle.ra_keep.specs.declared.mem_keeper.MemKeeper.{MemKeeper}
-use Rattle.ra_hub.specs.declared.plain.PlainHub.{PlainHub}
-use Rattle.ra_link_core.specs.Cores.{seat_in}
-use Rattle.ra_link_core.specs.Makes.{owned}
-use Rattle.ra_link_core.specs.declared.phase.Phase.{Phase}
-use Rattle.ra_link_core.specs.declared.phase.Phase.TheVariants as phases
 use Rattle.ra_model.specs.Links.{at_number}
-use Rattle.ra_opening.specs.Stands.{new_opening}
 use Rattle.ra_dial.specs.Calling.{is_calling}
 use Rattle.ra_dial.specs.Dialers.{epoch}
 use Rattle.ra_grand.specs.declared.world.GrandWorld.{GrandWorld}
-use Rattle.ra_grand.specs.ClientLinks.{links_at}
-use Rattle.ra_grand.specs.ClientStates.{ClientState}
-use Rattle.ra_grand.specs.Crowds.{ClientsStand, ClientsStay, LinksAt, IsCallingAt}
-use Rattle.ra_grand.specs.Draws.{draws_after}
-use Rattle.ra_grand.specs.GrandClients.{ServerEnd, GrandLink, Client, ends_of, linked, fresh_link}
-use Rattle.ra_grand.specs.GrandRefusals.{not_dialling, of_client, if_not_dialling}
-use Rattle.ra_grand.specs.GrandRuns.{links, with_place}
-use Rattle.ra_grand.specs.Grands.{Grand, Place, changed}
+use Rattle.ra_grand_clients.specs.ClientLinks.{links_at}
+use Rattle.ra_grand_clients.specs.ClientStates.{ClientState}
+use Rattle.ra_grand_clients.specs.Crowds.{ClientsStand, ClientsStay, LinksAt, IsCallingAt}
+use Rattle.ra_grand_runs.specs.Draws.{draws_after}
+use Rattle.ra_grand_runs.specs.GrandClients.{ServerEnd, GrandLink, Client, ends_of, linked, fresh_link}
+use Rattle.ra_grand_runs.specs.GrandRefusals.{not_dialling, of_client, if_not_dialling}
+use Rattle.ra_grand_runs.specs.GrandRuns.{links, with_place}
+use Rattle.ra_grand_runs.specs.Grands.{Grand, Place, changed}
 use Rattle.ra_grand.specs.GrandStates.{StandsForGrand, CallsAt}
-use Rattle.ra_grand.specs.ServerStates.{ServerState, ServedState, StandsForServer, EndStands, EndsStand, AllDiffer, HoldsSeats, place_of, seats_held, end_of, end_at}
-use Rattle.ra_grand.proofs.AnswerReading.{ReadsWhole, ReadsFront, reads_answer}
-use Rattle.ra_grand.proofs.CrowdHolding.{holds_one, holds_set}
-use Rattle.ra_grand.proofs.CrowdLemmas.{count, there}
-use Rattle.ra_grand.proofs.EndLemmas.{ends_dialled}
-use Rattle.ra_grand.proofs.LinkedHolding.{linked_holds}
-use Rattle.ra_grand.proofs.LinkTurnLemmas.{set_map, get_map}
+use Rattle.ra_grand_server.specs.ServerStates.{ServerState, ServedState, StandsForServer, EndStands, EndsStand, AllDiffer, place_of, end_of, end_at}
+use Rattle.ra_grand_clients.proofs.AnswerReading.{ReadsWhole, ReadsFront, reads_answer}
+use Rattle.ra_grand_runs.proofs.CrowdHolding.{holds_one, holds_set}
+use Rattle.ra_grand_clients.proofs.CrowdLemmas.{count, there}
+use Rattle.ra_grand_runs.proofs.EndLemmas.{ends_dialled}
+use Rattle.ra_grand_runs.proofs.LinkedHolding.{linked_holds}
+use Rattle.ra_grand_clients.proofs.LinkTurnLemmas.{set_map, get_map}
 use Rattle.ra_grand.proofs.MovingSteps.{set_got}
-use Rattle.ra_grand.proofs.NewEnds.{new_end_stands}
-use Rattle.ra_grand.proofs.PlaceLemmas.{apart_more, past_all}
-use Rattle.ra_grand.proofs.SpotLemmas.{links_at_counted, length_map}
+use Rattle.ra_grand_server.proofs.NewEnds.{new_end_stands}
+use Rattle.ra_grand_server.proofs.PlaceLemmas.{apart_more, past_all}
+use Rattle.ra_grand_clients.proofs.LinkCounts.{links_at_counted, length_map}
 use Rattle.ra_grand.proofs.WorldSteps.{stands_with}
-
--- the server's end of a new link
-abbrev pub new_served : ℕ → ℕ → ServedState
-new_served client link = record { client = client; link = link; core = phases.Opening new_opening; is_over = false }
-
--- ---- seats
-
-held_more : (ls : List ServedState) (client link : ℕ) (seat : Seat) → seats_held (ls ++ new_served client link ∷ []) seat ≡ seats_held ls seat
-held_more [] client link seat = refl
-held_more (l ∷ ls) client link seat = ap (λ (n : ℕ). owned (seat_in l.core) seat + n) (held_more ls client link seat)
-
-pub seats_more : (hub : PlainHub MemKeeper) (ls more : List ServedState) (client link : ℕ) → more ≡ ls ++ new_served client link ∷ [] → HoldsSeats hub ls → HoldsSeats hub more
-seats_more hub ls more client link is holds seat = omega (arith, ap (λ (xs : List ServedState). seats_held xs seat) is, held_more ls client link seat, holds seat)
-
-pub seats_added : (hub : PlainHub MemKeeper) (ls more : List ServedState) (client link : ℕ) (core : Phase) → core ≡ phases.Opening new_opening
-    → more ≡ ls ++ record { client = client; link = link; core = core; is_over = false } ∷ [] → HoldsSeats hub ls → HoldsSeats hub more
-seats_added hub ls more client link core new is =
-    seats_more hub ls more client link (is ∙ ap (λ (p : Phase). ls ++ record { client = client; link = link; core = p; is_over = false } ∷ []) new)
-
-held_front : (n : ℕ) (ls : List ServedState) (seat : Seat) → seats_held (take n ls) seat ≤ seats_held ls seat
-held_front zero ls seat = omega arith
-held_front (suc n) [] seat = omega arith
-held_front (suc n) (l ∷ ls) seat = omega (arith, held_front n ls seat)
-
-pub seats_front : (hub : PlainHub MemKeeper) (n : ℕ) (ls few : List ServedState) → few ≡ take n ls → HoldsSeats hub ls → HoldsSeats hub few
-seats_front hub n ls few is holds seat = omega (arith, ap (λ (xs : List ServedState). seats_held xs seat) is, held_front n ls seat, holds seat)
+use Rattle.ra_grand_server.proofs.SeatsAdded.{new_served}
 
 -- ---- the ends of links
 

@@ -7,22 +7,22 @@ use Rattle.ra_model.specs.Links.{at_number, amount, readable, cut_off}
 use Rattle.ra_dial.specs.declared.values.DialEvent.TheVariants as events
 use Rattle.ra_grand.specs.declared.spot.Spot.{Spot}
 use Rattle.ra_grand.specs.declared.world.GrandWorld.{GrandWorld}
-use Rattle.ra_grand.specs.ClientLinks.{LinkTurnsAt, TakesDownAt, IsFlushedAt}
-use Rattle.ra_grand.specs.ClientStates.{ClientState}
-use Rattle.ra_grand.specs.Crowds.{ClientsStand}
-use Rattle.ra_grand.specs.GrandClients.{ServerEnd, GrandLink, Client, ends_of}
-use Rattle.ra_grand.specs.GrandEffects.{moved, moved_down}
-use Rattle.ra_grand.specs.GrandRefusals.{of_link, if_unread}
-use Rattle.ra_grand.specs.GrandRuns.{bytes_down, takes, is_last, comes_down, cuts}
+use Rattle.ra_grand_clients.specs.ClientLinks.{LinkTurnsAt, TakesDownAt, IsFlushedAt}
+use Rattle.ra_grand_clients.specs.ClientStates.{ClientState}
+use Rattle.ra_grand_clients.specs.Crowds.{ClientsStand}
+use Rattle.ra_grand_runs.specs.GrandClients.{ServerEnd, GrandLink, Client, ends_of}
+use Rattle.ra_grand_runs.specs.GrandEffects.{moved, moved_down}
+use Rattle.ra_grand_runs.specs.GrandRefusals.{of_link, if_unread}
+use Rattle.ra_grand_runs.specs.GrandRuns.{bytes_down, takes, is_last, comes_down, cuts}
 use Rattle.ra_grand.specs.GrandStates.{StandsForGrand}
-use Rattle.ra_grand.specs.Grands.{Grand, Found, changed, with_client, with_link, put_link, on_link, find_link}
-use Rattle.ra_grand.specs.Reached.{ClientHolds}
+use Rattle.ra_grand_runs.specs.Grands.{Grand, Found, changed, with_client, with_link, put_link, on_link, find_link}
+use Rattle.ra_grand_runs.specs.Reached.{ClientHolds}
 use Rattle.ra_grand.specs.Spots.{FoundAt}
-use Rattle.ra_grand.proofs.AnswerReading.{ReadsWhole, ReadsFront, reads_answer}
-use Rattle.ra_grand.proofs.CrowdHolding.{holds_one, holds_set}
-use Rattle.ra_grand.proofs.EndLemmas.{ends_dialled, ends_set}
-use Rattle.ra_grand.proofs.LinkChanging.{read_down, fed_holds, dropped_holds, cut_holds}
-use Rattle.ra_grand.proofs.LinkTurnLemmas.{set_map, get_map}
+use Rattle.ra_grand_clients.proofs.AnswerReading.{ReadsWhole, ReadsFront, reads_answer}
+use Rattle.ra_grand_runs.proofs.CrowdHolding.{holds_one, holds_set}
+use Rattle.ra_grand_runs.proofs.EndLemmas.{ends_dialled, ends_set}
+use Rattle.ra_grand_runs.proofs.LinkChanging.{read_down, fed_holds, dropped_holds, cut_holds}
+use Rattle.ra_grand_clients.proofs.LinkTurnLemmas.{set_map, get_map}
 use Rattle.ra_grand.proofs.WorldSteps.{with_clients, stands_with}
 
 -- ---- lists

@@ -14,24 +14,24 @@ use Rattle.ra_link_core.specs.Makes.{Happens, Outcome, short}
 use Rattle.ra_link_core.specs.declared.phase.Phase.{Phase}
 use Rattle.ra_grand.specs.declared.spot.Spot.{Spot}
 use Rattle.ra_grand.specs.declared.world.GrandWorld.{GrandWorld}
-use Rattle.ra_grand.specs.ClientLinks.{LinkTurnsAt}
-use Rattle.ra_grand.specs.ClientStates.{ClientState}
-use Rattle.ra_grand.specs.Crowds.{ClientsStand}
-use Rattle.ra_grand.specs.Draws.{draws_after}
-use Rattle.ra_grand.specs.Fits.{IsPart, MarkFits, bytes_behind}
-use Rattle.ra_grand.specs.GrandClients.{GrandLink, Client}
-use Rattle.ra_grand.specs.GrandEffects.{broke, moved_by}
+use Rattle.ra_grand_clients.specs.ClientLinks.{LinkTurnsAt, exchanged}
+use Rattle.ra_grand_clients.specs.ClientStates.{ClientState}
+use Rattle.ra_grand_clients.specs.Crowds.{ClientsStand}
+use Rattle.ra_grand_runs.specs.Draws.{draws_after}
+use Rattle.ra_grand_runs.specs.Fits.{IsPart, MarkFits, bytes_behind}
+use Rattle.ra_grand_runs.specs.GrandClients.{GrandLink, Client}
+use Rattle.ra_grand_runs.specs.GrandEffects.{broke, moved_by}
 use Rattle.ra_grand.specs.GrandStates.{StandsForGrand}
-use Rattle.ra_grand.specs.GrandViews.{moved_to}
-use Rattle.ra_grand.specs.Grands.{Grand, Found, put_link}
-use Rattle.ra_grand.specs.Marks.{Mark, whole, short as short_mark, unticked}
-use Rattle.ra_grand.specs.Pieces.{Shares, TookPiece, PieceAt, LeavesAt, exchanged, is_end}
-use Rattle.ra_grand.specs.ServedLinks.{came, came_by, serving_at, served}
-use Rattle.ra_grand.specs.ServerStates.{ServerState}
+use Rattle.ra_grand_runs.specs.GrandViews.{moved_to}
+use Rattle.ra_grand_runs.specs.Grands.{Grand, Found, put_link}
+use Rattle.ra_grand_runs.specs.Marks.{Mark, whole, short as short_mark, unticked}
+use Rattle.ra_grand_server.specs.Pieces.{Shares, TookPiece, PieceAt, LeavesAt, is_end}
+use Rattle.ra_grand_runs.specs.ServedLinks.{came, came_by, serving_at, served}
+use Rattle.ra_grand_server.specs.ServerStates.{ServerState}
 use Rattle.ra_grand.specs.Servings.{ReceivesAt, DeliversAt, outcome_after}
 use Rattle.ra_grand.specs.Spots.{FoundAt}
 use Rattle.ra_grand.proofs.ServingSteps.{put_is, link_of, continues_at, goes_then, ends_then}
-use Rattle.ra_grand.proofs.SpotLemmas.{get_less}
+use Rattle.ra_grand_clients.proofs.LinkCounts.{get_less}
 
 -- ---- nothing is put on the link
 

@@ -3,17 +3,17 @@ use Rattle.std.proofs.Common.{◌≡◌, ℕ, zero, suc, ◌+◌, ◌<◌, ◌�
 use Rattle.std.specs.Prelude.{slice_get}
 use Rattle.std.proofs.lemmas.List.{map-append, take_more}
 use Rattle.ra_script.specs.declared.grand_line.GrandEvent.{GrandEvent}
-use Rattle.ra_grand.specs.declared.effect.GrandEffect.{GrandEffect}
-use Rattle.ra_grand.specs.declared.fault.GrandFault.{GrandFault}
+use Rattle.ra_grand_runs.specs.declared.effect.GrandEffect.{GrandEffect}
+use Rattle.ra_grand_runs.specs.declared.fault.GrandFault.{GrandFault}
 use Rattle.ra_grand.specs.declared.world.GrandWorld.{GrandWorld}
-use Rattle.ra_grand.specs.Fits.{EventFits, RunFits}
+use Rattle.ra_grand_runs.specs.Fits.{EventFits, RunFits}
 use Rattle.ra_grand.specs.GrandEvents.{Ran, WasRefused}
-use Rattle.ra_grand.specs.GrandRefusals.{Refusal, refusal}
-use Rattle.ra_grand.specs.GrandRuns.{happens, unless, after, run, is_accepted}
-use Rattle.ra_grand.specs.Grands.{Grand, new_grand}
+use Rattle.ra_grand_runs.specs.GrandRefusals.{Refusal, refusal}
+use Rattle.ra_grand_runs.specs.GrandRuns.{happens, unless, after, run, is_accepted}
+use Rattle.ra_grand_runs.specs.Grands.{Grand, new_grand}
 use Rattle.ra_grand.specs.GrandStates.{StandsForGrand}
-use Rattle.ra_grand.specs.GrandViews.{Applies}
-use Rattle.ra_grand.specs.Marks.{Entry}
+use Rattle.ra_grand_runs.specs.GrandViews.{Applies}
+use Rattle.ra_grand_runs.specs.Marks.{Entry}
 
 -- so many of the events were applied
 pub record RunsTo (events : List GrandEvent) (at : ℕ) (world : GrandWorld) : Type 0 where

@@ -13,23 +13,25 @@ use Rattle.ra_link_core.specs.Makes.{Outcome}
 use Rattle.ra_link_core.specs.declared.phase.Phase.{Phase}
 use Rattle.ra_grand.specs.declared.spot.Spot.{Spot}
 use Rattle.ra_grand.specs.declared.world.GrandWorld.{GrandWorld}
-use Rattle.ra_grand.specs.ClientStates.{ClientState}
-use Rattle.ra_grand.specs.Crowds.{ClientsStand}
-use Rattle.ra_grand.specs.Draws.{draws_after}
-use Rattle.ra_grand.specs.GrandClients.{GrandLink, ServerEnd, Client, ends_of}
-use Rattle.ra_grand.specs.Grands.{Grand, Place, Found, with_link, put_link}
+use Rattle.ra_grand_clients.specs.ClientStates.{ClientState}
+use Rattle.ra_grand_clients.specs.Crowds.{ClientsStand}
+use Rattle.ra_grand_runs.specs.Draws.{draws_after}
+use Rattle.ra_grand_runs.specs.GrandClients.{GrandLink, ServerEnd, Client, ends_of}
+use Rattle.ra_grand_runs.specs.Grands.{Grand, Place, Found, with_link, put_link}
 use Rattle.ra_grand.specs.GrandStates.{StandsForGrand}
-use Rattle.ra_grand.specs.Marks.{Mark}
-use Rattle.ra_grand.specs.Pieces.{Continues, LeavesAt, left_state, exchanged, is_end, came_at}
-use Rattle.ra_grand.specs.Reached.{ClientsHold}
-use Rattle.ra_grand.specs.ServedLinks.{draw_at, left, settled, end_after, put_served, piece_came}
-use Rattle.ra_grand.specs.ServerStates.{ServerState, ServedState, StandsForServer, IsEndOf, EndStands, EndsStand, Unless, AllDiffer, place_of, end_of, end_at}
-use Rattle.ra_grand.specs.Servings.{IsNext, Received}
+use Rattle.ra_grand_runs.specs.Marks.{Mark}
+use Rattle.ra_grand_runs.specs.ServedLinks.{Continues, came_at, draw_at, left, settled, end_after, put_served, piece_came, IsNext}
+use Rattle.ra_grand_server.specs.Pieces.{LeavesAt, left_state, is_end}
+use Rattle.ra_grand_clients.specs.ClientLinks.{exchanged}
+use Rattle.ra_grand_runs.specs.Reached.{ClientsHold}
+use Rattle.ra_grand_server.specs.ServerStates.{ServerState, ServedState, StandsForServer, IsEndOf, EndStands, EndsStand, Unless, AllDiffer, place_of, end_of, end_at}
+use Rattle.ra_grand.specs.Servings.{Received}
 use Rattle.ra_grand.specs.Spots.{FoundAt}
-use Rattle.ra_grand.proofs.CrowdHolding.{holds_one, holds_set}
-use Rattle.ra_grand.proofs.LinkSteps.{continues, follows}
-use Rattle.ra_grand.proofs.PlaceLemmas.{get_same, get_map, ends_put, places_put, end_there, end_put, end_kept}
-use Rattle.ra_grand.proofs.ServedHolding.{KeepsLink, after_bytes, client_keeps, link_there, piece_keeps}
+use Rattle.ra_grand_runs.proofs.CrowdHolding.{holds_one, holds_set}
+use Rattle.ra_grand_runs.proofs.LinkSteps.{continues, follows}
+use Rattle.ra_grand_runs.proofs.NumberLemmas.{get_same, get_map}
+use Rattle.ra_grand_server.proofs.PlaceLemmas.{ends_put, places_put, end_there, end_put, end_kept}
+use Rattle.ra_grand_runs.proofs.ServedHolding.{KeepsLink, after_bytes, client_keeps, link_there, piece_keeps}
 
 there_is : {X : Type 0} → {x y : X} → ◌≡◌ {A = Option X} (Some x) (Some y) → x ≡ y
 there_is e = cc

@@ -1,78 +1,36 @@
 -- Where a link is in memory, and what can be read on it there.
-use Rattle.std.proofs.Common.{◌≡◌, inl, inr, ℕ, zero, suc, ◌<◌, ◌≤◌, false, Option, Some, None, Result, Ok, Err, OnOk, List, take, [], ◌∷◌, length, map, refl, ap, sym, ◌∙◌, subst, arith}
-use Rattle.std.specs.Prelude.{slice_get, slice_index_or, option_map, is_err}
+use Rattle.std.proofs.Common.{◌≡◌, inl, inr, ℕ, zero, suc, ◌<◌, false, Option, Some, None, Result, Ok, Err, OnOk, List, take, [], ◌∷◌, length, map, refl, ap, sym, ◌∙◌, subst, arith}
+use Rattle.std.specs.Prelude.{slice_get, option_map, is_err}
 use Rattle.ra_base.specs.declared.event.Count.{Count}
 use Rattle.ra_base.specs.declared.event.Side.{Side}
-use Rattle.ra_base.specs.declared.event.Side.TheVariants.{B}
-use Rattle.ra_model.specs.Links.{Link, at_number, amount, readable, written_to}
-use Rattle.ra_dial.specs.Table.{out}
-use Rattle.ra_grand.specs.declared.fault.GrandFault.{GrandFault}
+use Rattle.ra_model.specs.Links.{Link, at_number, amount, readable}
+use Rattle.ra_grand_runs.specs.declared.fault.GrandFault.{GrandFault}
 use Rattle.ra_grand.specs.declared.spot.Spot.{Spot}
 use Rattle.ra_grand.specs.declared.world.GrandWorld.{GrandWorld}
-use Rattle.ra_grand.specs.ClientLinks.{HasLink, links_at, link_at, IsFlushedAt}
-use Rattle.ra_grand.specs.ClientStates.{ClientState, StandsForClient, put_on_last, wire}
-use Rattle.ra_grand.specs.Crowds.{ClientsStand}
-use Rattle.ra_grand.specs.GrandClients.{GrandLink, Client, writes_up}
-use Rattle.ra_grand.specs.GrandRefusals.{if_many, if_unread}
-use Rattle.ra_grand.specs.GrandViews.{IsCause}
-use Rattle.ra_grand.specs.Grands.{Grand, Place, Found, found_at, found_client, found_link, find_link}
+use Rattle.ra_grand_clients.specs.ClientLinks.{HasLink, links_at, link_at, IsFlushedAt}
+use Rattle.ra_grand_clients.specs.ClientStates.{ClientState, put_on_last, wire}
+use Rattle.ra_grand_clients.specs.Crowds.{ClientsStand}
+use Rattle.ra_grand_runs.specs.GrandClients.{GrandLink, Client}
+use Rattle.ra_grand_runs.specs.GrandRefusals.{if_many, if_unread}
+use Rattle.ra_grand_runs.specs.GrandViews.{IsCause}
+use Rattle.ra_grand_runs.specs.Grands.{Grand, Place, Found, found_at, found_client, found_link, find_link}
 use Rattle.ra_grand.specs.GrandStates.{StandsForGrand, IsIndex}
 use Rattle.ra_grand.specs.Spots.{FoundAt, IsThere}
-use Rattle.ra_grand.specs.ServerStates.{place_of}
-use Rattle.ra_grand.proofs.CrowdLemmas.{one, count}
-use Rattle.ra_grand.proofs.Flushing.{put_nothing}
-use Rattle.ra_grand.proofs.LastLemmas.{length_last}
-use Rattle.ra_grand.proofs.LinkTurnLemmas.{get_map, index_is}
+use Rattle.ra_grand_server.specs.ServerStates.{place_of}
+use Rattle.ra_grand_clients.proofs.CrowdLemmas.{count}
+use Rattle.ra_grand_clients.proofs.Flushing.{put_nothing}
+use Rattle.ra_grand_clients.proofs.LinkTurnLemmas.{get_map}
 use Rattle.ra_grand.proofs.WorldSteps.{with_clients}
+use Rattle.ra_grand_clients.proofs.LinkCounts.{get_less, less_got, past, links_at_counted}
 
 -- ---- lists
-
-pub get_less : {X : Type 0} → (xs : List X) (n : ℕ) → n < length xs → (x : X) × (slice_get xs n ≡ Some x)
-get_less [] n less = absurd (omega (arith, less))
-get_less (x ∷ xs) zero less = (x, refl)
-get_less (x ∷ xs) (suc n) less = get_less xs n (omega (arith, less))
-
-pub less_got : {X : Type 0} → (xs : List X) (n : ℕ) (x : X) → slice_get xs n ≡ Some x → n < length xs
-less_got [] n x is = absurd cc
-less_got (y ∷ xs) zero x is = omega arith
-less_got (y ∷ xs) (suc n) x is = omega (arith, less_got xs n x is)
-
-pub get_indexed : {X : Type 0} → (xs : List X) (n : ℕ) (d : X) → n < length xs → slice_get xs n ≡ Some (slice_index_or xs n d)
-get_indexed [] n d less = absurd (omega (arith, less))
-get_indexed (x ∷ xs) zero d less = refl
-get_indexed (x ∷ xs) (suc n) d less = get_indexed xs n d (omega (arith, less))
-
-pub past : {X : Type 0} → (xs : List X) (n : ℕ) → length xs ≤ n → slice_get xs n ≡ None
-past [] n less = refl
-past (x ∷ xs) zero less = absurd (omega (arith, less))
-past (x ∷ xs) (suc n) less = past xs n (omega (arith, less))
 
 pub missing_in : {X : Type 0} → (xs : List X) (number many : ℕ) → many ≡ length xs → IsIndex number many None → at_number xs number ≡ None
 missing_in xs zero many is none = refl
 missing_in xs (suc n) many is (inl e) = absurd (omega (arith, e))
 missing_in xs (suc n) many is (inr large) = past xs n (omega (arith, is, large))
 
-pub length_map : {X Y : Type 0} → (v : X → Y) (xs : List X) → length (map v xs) ≡ length xs
-length_map v [] = refl
-length_map v (x ∷ xs) = ap (λ n. suc n) (length_map v xs)
-
 -- ---- links in memory
-
-pub links_counted : (h : ClientState) (c : Client) → StandsForClient h c → length h.links ≡ length c.links
-links_counted h c stands =
-    let u = stands.0 in
-    sym (ap (λ (x : Client). length x.links) stands.2 ∙ length_last (writes_up (out u.dialer)) u.links ∙ sym (length_map wire u.links)
-    ∙ ap (λ (ls : List Link). length ls) stands.1.links ∙ length_last (written_to B h.held) h.links)
-
-state_there : (hs : List ClientState) (cs : List Client) (n : ℕ) (c : Client) → ClientsStand hs cs → slice_get cs n ≡ Some c → (h : ClientState) × (slice_get hs n ≡ Some h) × StandsForClient h c
-state_there hs cs n c all is =
-    let there = get_less hs n (omega (arith, less_got cs n c is, count hs cs all)) in
-    (there.0, there.1, subst (λ (h : ClientState). StandsForClient h c) (index_is hs n there.0 there.0 there.1) (one hs cs n there.0 c all is))
-
-pub links_at_counted : (hs : List ClientState) (cs : List Client) (n : ℕ) (c : Client) → ClientsStand hs cs → slice_get cs n ≡ Some c
-    → length (links_at (slice_get hs n)) ≡ length c.links
-links_at_counted hs cs n c all is =
-    let there = state_there hs cs n c all is in ap (λ (x : Option ClientState). length (links_at x)) there.1 ∙ links_counted there.0 c there.2
 
 pub client_there : (hs : List ClientState) (n k : ℕ) → HasLink n k hs → n < length hs
 client_there [] n k has = absurd (nothing has.0 has.1)

@@ -5,27 +5,27 @@ use Rattle.ra_base.specs.declared.event.Count.{Count}
 use Rattle.ra_base.specs.declared.event.Side.TheVariants.{B}
 use Rattle.ra_model.specs.Links.{amount}
 use Rattle.ra_model.specs.Refusals.{or_fault, fault_if}
-use Rattle.ra_grand.specs.declared.effect.GrandEffect.{GrandEffect}
-use Rattle.ra_grand.specs.declared.fault.GrandFault.{GrandFault}
-use Rattle.ra_grand.specs.declared.fault.GrandFault.TheVariants as faults
+use Rattle.ra_grand_runs.specs.declared.effect.GrandEffect.{GrandEffect}
+use Rattle.ra_grand_runs.specs.declared.fault.GrandFault.{GrandFault}
+use Rattle.ra_grand_runs.specs.declared.fault.GrandFault.TheVariants as faults
 use Rattle.ra_grand.specs.declared.spot.Spot.{Spot}
 use Rattle.ra_grand.specs.declared.world.GrandWorld.{GrandWorld}
-use Rattle.ra_grand.specs.Fits.{MarkFits, MovesFit}
-use Rattle.ra_grand.specs.GrandClients.{GrandLink}
-use Rattle.ra_grand.specs.GrandEffects.{moved_by, moved_up}
-use Rattle.ra_grand.specs.GrandRefusals.{Refusal, link_over, of_link, if_over, if_unread}
-use Rattle.ra_grand.specs.GrandRuns.{bytes_up}
+use Rattle.ra_grand_runs.specs.Fits.{MarkFits, MovesFit}
+use Rattle.ra_grand_runs.specs.GrandClients.{GrandLink}
+use Rattle.ra_grand_runs.specs.GrandEffects.{moved_by, moved_up}
+use Rattle.ra_grand_runs.specs.GrandRefusals.{Refusal, link_over, of_link, if_over, if_unread}
+use Rattle.ra_grand_runs.specs.GrandRuns.{bytes_up}
 use Rattle.ra_grand.specs.GrandStates.{StandsForGrand}
-use Rattle.ra_grand.specs.GrandViews.{IsCause, Answers, effect_of}
-use Rattle.ra_grand.specs.Grands.{Grand, Found, find_link, on_link}
-use Rattle.ra_grand.specs.Marks.{Mark, whole}
-use Rattle.ra_grand.specs.ServedLinks.{serving_at, served, piece_came}
+use Rattle.ra_grand_runs.specs.GrandViews.{IsCause, Answers, effect_of}
+use Rattle.ra_grand_runs.specs.Grands.{Grand, Found, find_link, on_link}
+use Rattle.ra_grand_runs.specs.Marks.{Mark, whole}
+use Rattle.ra_grand_runs.specs.ServedLinks.{serving_at, served, piece_came}
 use Rattle.ra_grand.specs.Servings.{WaitsAt, DeliversAt}
-use Rattle.ra_grand.specs.ServerStates.{ServedState}
+use Rattle.ra_grand_server.specs.ServerStates.{ServedState}
 use Rattle.ra_grand.specs.Spots.{FoundAt, IsSpot, Chooses}
 use Rattle.ra_grand.proofs.GoneSteps.{over_alone}
 use Rattle.ra_grand.proofs.ServingSteps.{link_of}
-use Rattle.ra_grand.proofs.SpotLemmas.{get_less}
+use Rattle.ra_grand_clients.proofs.LinkCounts.{get_less}
 
 -- ---- refusals
 

@@ -1,5 +1,5 @@
 -- What events of a world in memory stand for.
-use Rattle.std.proofs.Common.{◌≡◌, ℕ, suc, ◌<◌, Option, Some, None, Ok, Err, List, length, map, refl, ap, sym, ◌∙◌, subst, arith}
+use Rattle.std.proofs.Common.{◌≡◌, ℕ, suc, ◌<◌, Option, Some, None, Ok, Err, List, length, map, refl, ap, sym, ◌∙◌, subst, arith, inl, inr, zero, ◌≤◌, [], ◌∷◌}
 use Rattle.std.specs.Prelude.{ℤ, slice_set, slice_get}
 use Rattle.ra_model.specs.Links.{at_number}
 use Rattle.ra_ipc.specs.View.{id_of}
@@ -7,28 +7,39 @@ use Rattle.ra_session.specs.declared.values.SessionFault.{SessionFault}
 use Rattle.ra_session.specs.declared.values.SessionFault.TheVariants as faults
 use Rattle.ra_session.specs.SessionRefusals.{Refusal as SessionRefusal, ended, stale, no_link, too_long, bad_ipc, too_large, ids_spent, no_such_call, wrong_kind, bad_message, IsRefusal}
 use Rattle.ra_session.specs.Sessions.{Session}
-use Rattle.ra_grand.specs.declared.fault.GrandFault.{GrandFault}
-use Rattle.ra_grand.specs.declared.fault.GrandFault.TheVariants as grand_faults
-use Rattle.ra_grand.specs.GrandViews.{IsCause}
+use Rattle.ra_grand_runs.specs.declared.fault.GrandFault.{GrandFault}
+use Rattle.ra_grand_runs.specs.declared.fault.GrandFault.TheVariants as grand_faults
+use Rattle.ra_grand_runs.specs.GrandViews.{IsCause}
 use Rattle.ra_dial.specs.declared.values.DialAct.{DialAct}
 use Rattle.ra_dial.specs.declared.values.DialEvent.{DialEvent}
 use Rattle.ra_dial.specs.Acts.{act_of}
 use Rattle.ra_grand.specs.declared.world.GrandWorld.{GrandWorld}
-use Rattle.ra_grand.specs.ClientStates.{ClientState}
-use Rattle.ra_grand.specs.GrandClients.{ServerEnd, Client, ends_of, dials, dialled, asked}
-use Rattle.ra_grand.specs.GrandEffects.{acts, issued, next_id, act_at, act_of as effect_at}
-use Rattle.ra_grand.specs.GrandRefusals.{Refusal, no_such_client, of_client, unrefused, by_session, if_session}
-use Rattle.ra_grand.specs.GrandRuns.{on_dialer, on_session}
-use Rattle.ra_grand.specs.Grands.{Grand, changed}
+use Rattle.ra_grand_clients.specs.ClientStates.{ClientState}
+use Rattle.ra_grand_runs.specs.GrandClients.{ServerEnd, Client, ends_of, dials, dialled, asked}
+use Rattle.ra_grand_runs.specs.GrandEffects.{acts, issued, next_id, act_at, act_of as effect_at}
+use Rattle.ra_grand_runs.specs.GrandRefusals.{Refusal, no_such_client, of_client, unrefused, by_session, if_session}
+use Rattle.ra_grand_runs.specs.GrandRuns.{on_dialer, on_session}
+use Rattle.ra_grand_runs.specs.Grands.{Grand, changed}
 use Rattle.ra_grand.specs.GrandStates.{StandsForGrand, IsIndex}
-use Rattle.ra_grand.specs.Crowds.{ClientsStand, ClientsStay, DialsAt, AsksAt, IsNextIdAt}
-use Rattle.ra_grand.specs.Reached.{BringsNothing, ClientsHold}
-use Rattle.ra_grand.specs.ServerStates.{EndsStand}
-use Rattle.ra_grand.proofs.AnswerReading.{ReadsWhole, ReadsFront, reads_answer}
-use Rattle.ra_grand.proofs.ClientHolding.{dialled_holds, asked_holds}
-use Rattle.ra_grand.proofs.CrowdHolding.{holds_one, holds_set}
-use Rattle.ra_grand.proofs.CrowdLemmas.{count, there, missing}
-use Rattle.ra_grand.proofs.EndLemmas.{ends_dialled, ends_asked, ends_set}
+use Rattle.ra_grand_clients.specs.Crowds.{ClientsStand, ClientsStay, DialsAt, AsksAt, IsNextIdAt}
+use Rattle.ra_grand_runs.specs.Reached.{BringsNothing, ClientsHold}
+use Rattle.ra_grand_server.specs.ServerStates.{EndsStand}
+use Rattle.ra_grand_clients.proofs.AnswerReading.{ReadsWhole, ReadsFront, reads_answer}
+use Rattle.ra_grand_runs.proofs.ClientHolding.{dialled_holds, asked_holds}
+use Rattle.ra_grand_runs.proofs.CrowdHolding.{holds_one, holds_set}
+use Rattle.ra_grand_clients.proofs.CrowdLemmas.{count, there}
+use Rattle.ra_grand_runs.proofs.EndLemmas.{ends_dialled, ends_asked, ends_set}
+
+-- none has a number that is too large
+missing : (cs : List Client) (number many : ℕ) → many ≡ length cs → IsIndex number many None → at_number cs number ≡ None
+missing cs zero many is none = refl
+missing cs (suc n) many is (inl e) = absurd (omega (arith, e))
+missing cs (suc n) many is (inr large) = past cs n (omega (arith, is, large))
+  where
+    past : (cs : List Client) (n : ℕ) → length cs ≤ n → slice_get cs n ≡ None
+    past [] n less = refl
+    past (c ∷ cs) zero less = absurd (omega (arith, less))
+    past (c ∷ cs) (suc n) less = past cs n (omega (arith, less))
 
 -- the world with these clients
 abbrev pub with_clients : GrandWorld → List ClientState → GrandWorld

@@ -1,17 +1,16 @@
 -- Which events a world takes, and the runs of a list of events.
-use Rattle.std.specs.Prelude.{◌≡◌, ℕ, true, Some, List, map, take}
-use Rattle.std.specs.Prelude.{slice_get}
+use Rattle.std.specs.Prelude.{◌≡◌, ℕ, true, Some, List, map, take, slice_get}
 use Rattle.ra_script.specs.GrandLines.{IsNoTunnel, IsMomentInRange, GrandEventFits}
 use Rattle.ra_script.specs.declared.grand_line.GrandEvent.{GrandEvent}
-use Rattle.ra_grand.specs.declared.fault.GrandFault.{GrandFault}
+use Rattle.ra_grand_runs.specs.declared.fault.GrandFault.{GrandFault}
 use Rattle.ra_grand.specs.declared.world.GrandWorld.{GrandWorld}
-use Rattle.ra_grand.specs.Fits.{RunFits}
-use Rattle.ra_grand.specs.GrandRefusals.{refusal}
-use Rattle.ra_grand.specs.GrandRuns.{run, is_accepted}
+use Rattle.ra_grand_runs.specs.Fits.{RunFits}
+use Rattle.ra_grand_runs.specs.GrandRefusals.{refusal}
+use Rattle.ra_grand_runs.specs.GrandRuns.{run, is_accepted}
 use Rattle.ra_grand.specs.GrandStates.{StandsForGrand}
-use Rattle.ra_grand.specs.GrandViews.{IsCause}
-use Rattle.ra_grand.specs.Grands.{new_grand}
-use Rattle.ra_grand.specs.Marks.{Entry}
+use Rattle.ra_grand_runs.specs.GrandViews.{IsCause}
+use Rattle.ra_grand_runs.specs.Grands.{new_grand}
+use Rattle.ra_grand_runs.specs.Marks.{Entry}
 
 -- no client is one of a tunnel, the moment is below 2^53, and what a call or a listener carries can be written
 abbrev pub IsGrandEvent : GrandEvent → Type 0

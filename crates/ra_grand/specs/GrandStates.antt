@@ -2,11 +2,11 @@
 use Rattle.std.specs.Prelude.{◌≡◌, ◌⊎◌, ℕ, suc, ◌<◌, true, Option, Some, None, slice_get}
 use Rattle.ra_dial.specs.Calling.{is_calling}
 use Rattle.ra_grand.specs.declared.world.GrandWorld.{GrandWorld}
-use Rattle.ra_grand.specs.Crowds.{ClientsStand}
-use Rattle.ra_grand.specs.GrandClients.{Client}
-use Rattle.ra_grand.specs.Grands.{Grand}
-use Rattle.ra_grand.specs.Reached.{WorldHolds}
-use Rattle.ra_grand.specs.ServerStates.{StandsForServer}
+use Rattle.ra_grand_clients.specs.Crowds.{ClientsStand}
+use Rattle.ra_grand_runs.specs.GrandClients.{Client}
+use Rattle.ra_grand_runs.specs.Grands.{Grand}
+use Rattle.ra_grand_runs.specs.Reached.{WorldHolds}
+use Rattle.ra_grand_server.specs.ServerStates.{StandsForServer}
 
 pub record StandsForGrand (s : GrandWorld) (w : Grand) : Type 0 where
   pub now : w.now ≡ s.moment

@@ -1,25 +1,24 @@
 -- Bytes that come to the server's end of a link, in a world in memory.
-use Rattle.std.specs.Prelude.{◌≡◌, ℕ, false, Option, Some, Result, Ok, Err, List, length, take, slice_get, slice_set}
-use Rattle.ra_base.specs.declared.event.Side.TheVariants.{B}
-use Rattle.ra_model.specs.Links.{readable}
+use Rattle.std.specs.Prelude.{◌≡◌, ℕ, false, Option, Some, Result, Ok, Err, List, length, slice_get, slice_set}
 use Rattle.ra_model.specs.Refusals.{or_fault}
 use Rattle.ra_link_core.specs.Makes.{Outcome, short}
 use Rattle.ra_link_core.specs.declared.phase.Phase.{Phase}
-use Rattle.ra_grand.specs.declared.fault.GrandFault.{GrandFault}
+use Rattle.ra_grand_runs.specs.declared.fault.GrandFault.{GrandFault}
 use Rattle.ra_grand.specs.declared.spot.Spot.{Spot}
 use Rattle.ra_grand.specs.declared.world.GrandWorld.{GrandWorld}
-use Rattle.ra_grand.specs.Crowds.{ClientsStand}
-use Rattle.ra_grand.specs.Fits.{MarkFits}
-use Rattle.ra_grand.specs.GrandClients.{GrandLink}
-use Rattle.ra_grand.specs.GrandEffects.{Effect, moved_by}
-use Rattle.ra_grand.specs.GrandRefusals.{Refusal, of_link, if_over}
-use Rattle.ra_grand.specs.Grands.{Grand, Found, find_link, put_link}
+use Rattle.ra_grand_clients.specs.Crowds.{ClientsStand}
+use Rattle.ra_grand_runs.specs.Fits.{MarkFits}
+use Rattle.ra_grand_runs.specs.GrandClients.{GrandLink}
+use Rattle.ra_grand_runs.specs.GrandEffects.{Effect, moved_by}
+use Rattle.ra_grand_runs.specs.GrandRefusals.{Refusal, of_link, if_over}
+use Rattle.ra_grand_runs.specs.Grands.{Grand, Found, find_link, put_link}
 use Rattle.ra_grand.specs.GrandStates.{StandsForGrand}
-use Rattle.ra_grand.specs.GrandViews.{IsCause}
-use Rattle.ra_grand.specs.Marks.{Mark}
-use Rattle.ra_grand.specs.Pieces.{Continues, TookPiece, exchanged}
-use Rattle.ra_grand.specs.ServedLinks.{serving_at, served, piece_came}
-use Rattle.ra_grand.specs.ServerStates.{ServedState, IsEndOf}
+use Rattle.ra_grand_runs.specs.GrandViews.{IsCause}
+use Rattle.ra_grand_runs.specs.Marks.{Mark}
+use Rattle.ra_grand_runs.specs.ServedLinks.{Continues, serving_at, served, piece_came, IsNext}
+use Rattle.ra_grand_server.specs.Pieces.{TookPiece}
+use Rattle.ra_grand_clients.specs.ClientLinks.{exchanged}
+use Rattle.ra_grand_server.specs.ServerStates.{ServedState, IsEndOf}
 use Rattle.ra_grand.specs.Spots.{FoundAt}
 
 -- ---- a link that waits for bytes
@@ -30,11 +29,6 @@ WaitsAt (Ok spot) link w = (f : Found) × (find_link link w ≡ Some f) × Found
 WaitsAt (Err fault) link w = (further : GrandLink → Option Refusal) → IsCause fault (of_link link (λ l. or_fault (if_over link l) (further l)) (find_link link w))
 
 -- ---- bytes
-
--- they are the first of those that the server can read
-pub record IsNext (bytes : List ℕ) (l : GrandLink) : Type 0 where
-  pub count : ℕ
-  pub is : bytes ≡ take count (readable B l.link)
 
 -- where what it wrote found no memory on the link, it ran out there
 abbrev pub outcome_after : {X E : Type 0} → Result X E → Outcome → Outcome

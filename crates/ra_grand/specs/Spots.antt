@@ -3,14 +3,14 @@ use Rattle.std.specs.Prelude.{◌≡◌, ℕ, suc, ◌<◌, Option, Some, None, 
 use Rattle.ra_base.specs.declared.event.Count.{Count}
 use Rattle.ra_base.specs.declared.event.Side.{Side}
 use Rattle.ra_model.specs.Links.{at_number, amount, readable}
-use Rattle.ra_grand.specs.declared.fault.GrandFault.{GrandFault}
+use Rattle.ra_grand_runs.specs.declared.fault.GrandFault.{GrandFault}
 use Rattle.ra_grand.specs.declared.spot.Spot.{Spot}
 use Rattle.ra_grand.specs.declared.world.GrandWorld.{GrandWorld}
-use Rattle.ra_grand.specs.ClientLinks.{HasLink}
-use Rattle.ra_grand.specs.GrandClients.{GrandLink}
-use Rattle.ra_grand.specs.GrandRefusals.{if_unread}
-use Rattle.ra_grand.specs.Grands.{Grand, Found}
-use Rattle.ra_grand.specs.GrandViews.{IsCause}
+use Rattle.ra_grand_clients.specs.ClientLinks.{HasLink}
+use Rattle.ra_grand_runs.specs.GrandClients.{GrandLink}
+use Rattle.ra_grand_runs.specs.GrandRefusals.{if_unread}
+use Rattle.ra_grand_runs.specs.Grands.{Grand, Found}
+use Rattle.ra_grand_runs.specs.GrandViews.{IsCause}
 
 -- a link that was found is the one at that spot
 pub record FoundAt (spot : Spot) (w : Grand) (f : Found) : Type 0 where

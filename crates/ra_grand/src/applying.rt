@@ -7,14 +7,13 @@ ghost use Rattle.ra_script.specs.declared.grand_line.GrandEvent.TheVariants as e
 ghost use Rattle.ra_script.specs.GrandLines.{GrandEventFits};
 ghost use Rattle.ra_grand.specs.GrandEvents.{IsGrandEvent, Ran, WasRefused};
 ghost use Rattle.ra_grand.specs.GrandStates.{StandsForGrand};
-ghost use Rattle.ra_grand.specs.GrandViews.{Applies};
-ghost use Rattle.ra_grand.specs.Grands as grand;
+ghost use Rattle.ra_grand_runs.specs.GrandViews.{Applies};
+ghost use Rattle.ra_grand_runs.specs.Grands as grand;
 
-use crate::effect::GrandEffect;
-use crate::fault::{GrandFault, GrandRunFault};
 use crate::world::GrandWorld;
 use ra_base::{Message, NoMemory};
 use ra_dial::DialEvent;
+use ra_grand_runs::{GrandEffect, GrandFault, GrandRunFault};
 use ra_script::GrandEvent;
 use ra_values::{Bytes, Text, Value};
 use std::alloc::Global;

@@ -5,31 +5,14 @@
 #![tactic(auto)]
 
 mod applying;
-mod asking;
-mod client;
-mod client_links;
-mod client_setup;
-mod clients;
-mod counted;
-mod dialling;
-pub mod effect;
-mod exchanging;
-pub mod fault;
-pub mod laws;
-mod link;
 mod linking;
 mod moving;
-mod served_link;
-mod server;
 mod serving;
-mod settings;
 mod spot;
 mod sweeping;
-mod telling;
 mod working;
 pub mod world;
 
 pub use applying::run_grand;
-pub use effect::GrandEffect;
-pub use fault::{GrandFault, GrandRunFault};
+pub use ra_grand_runs::{GrandEffect, GrandFault, GrandRunFault, laws};
 pub use world::GrandWorld;

@@ -1,57 +1,27 @@
 //! Links that clients make, and those that they can't have.
-ghost use Rattle.std.specs.Prelude.{◌≡◌, ◌≢◌, ◌+◌, ◌++◌, ◌∷◌, [], false, Some, length, take, IfOk, OnOk, OnErr};
+ghost use Rattle.std.specs.Prelude.{◌≡◌, ◌≢◌, ◌+◌, Some, length, IfOk, OnErr};
 ghost use Rattle.ra_base.specs.TokenGrammar.{IsToken};
 ghost use Rattle.ra_base.specs.declared.kind.Kind.TheVariants as kinds;
 ghost use Rattle.ra_dial.specs.declared.values.DialEvent.TheVariants as events;
-ghost use Rattle.ra_link_core.specs.declared.phase.Phase.TheVariants as phases;
 ghost use Rattle.ra_model.specs.Links.{at_number};
-ghost use Rattle.ra_opening.specs.Stands.{new_opening};
-ghost use Rattle.ra_grand.specs.Grands as grand;
-ghost use Rattle.ra_grand.specs.GrandEffects as effects;
-ghost use Rattle.ra_grand.specs.GrandRefusals as refusals;
-ghost use Rattle.ra_grand.specs.GrandRuns.{joins, on_dialer, links};
+ghost use Rattle.ra_grand_runs.specs.Grands as grand;
+ghost use Rattle.ra_grand_runs.specs.GrandEffects as effects;
+ghost use Rattle.ra_grand_runs.specs.GrandRefusals as refusals;
+ghost use Rattle.ra_grand_runs.specs.GrandRuns.{joins, on_dialer, links};
 ghost use Rattle.ra_grand.specs.GrandStates.{StandsForGrand, IsIndex, CallsAt};
-ghost use Rattle.ra_grand.specs.GrandViews.{Answers};
+ghost use Rattle.ra_grand_runs.specs.GrandViews.{Answers};
 
-use crate::effect::GrandEffect;
-use crate::fault::GrandFault;
-use crate::served_link::ServedLink;
-use crate::server::Server;
 use crate::world::{GrandWorld, index_of};
 use ra_base::{Key, NoMemory};
 use ra_dial::DialEvent;
-use ra_link_core::LinkCore;
+use ra_grand_runs::{GrandEffect, GrandFault};
 use ra_upgrade::laws::answer_is_read;
-use std::alloc::Global;
 
 /// The token of a key is one.
 fn know_token(key: &Key)
     ensures { IsToken key.now.token }
 {
     let _text = key.token.as_text();
-}
-
-impl Server {
-    /// The server's end of a new link.
-    fn add_link(&mut self, alloc: Global, client: u64, link: u64) -> Result<(), NoMemory>
-        ensures ok { OnOk result (self.new ≡ record self.old { links = self.old.links ++ record { client = client; link = link; core = phases.Opening new_opening; is_over = false } ∷ [] }) }
-        ensures err { OnErr result (self.new ≡ self.old) }
-    {
-        self.links.push(ServedLink {
-            client,
-            link,
-            core: LinkCore::new(alloc),
-            is_over: false,
-        })?;
-        Ok(())
-    }
-
-    /// The first n links stay, and no others.
-    fn keep_links(&mut self, n: usize)
-        ensures { self.new ≡ record self.old { links = take n self.old.links } }
-    {
-        self.links.truncate(n);
-    }
 }
 
 impl GrandWorld {

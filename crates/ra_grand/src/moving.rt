@@ -2,20 +2,19 @@
 ghost use Rattle.std.specs.Prelude.{◌≡◌, ◌≤◌, ◌<◌, length, None, IfOk, IfSome, OnOk};
 ghost use Rattle.ra_base.specs.declared.event.Side.TheVariants as sides;
 ghost use Rattle.ra_model.specs.Links.{amount};
-ghost use Rattle.ra_grand.specs.ClientLinks.{HasUnread, IsFlushedAt};
-ghost use Rattle.ra_grand.specs.GrandEffects as effects;
-ghost use Rattle.ra_grand.specs.GrandRefusals as refusals;
-ghost use Rattle.ra_grand.specs.GrandRuns.{bytes_down, comes_down, cuts};
-ghost use Rattle.ra_grand.specs.Grands as grand;
+ghost use Rattle.ra_grand_clients.specs.ClientLinks.{HasUnread, IsFlushedAt};
+ghost use Rattle.ra_grand_runs.specs.GrandEffects as effects;
+ghost use Rattle.ra_grand_runs.specs.GrandRefusals as refusals;
+ghost use Rattle.ra_grand_runs.specs.GrandRuns.{bytes_down, comes_down, cuts};
+ghost use Rattle.ra_grand_runs.specs.Grands as grand;
 ghost use Rattle.ra_grand.specs.GrandStates.{StandsForGrand};
 ghost use Rattle.ra_grand.specs.Spots.{FoundAt, IsSpot, IsThere, Chooses};
-ghost use Rattle.ra_grand.specs.GrandViews.{Answers, Causes};
+ghost use Rattle.ra_grand_runs.specs.GrandViews.{Answers, Causes};
 
-use crate::effect::GrandEffect;
-use crate::fault::GrandFault;
 use crate::spot::Spot;
 use crate::world::{GrandWorld, index_of};
 use ra_base::{Count, Message, Side};
+use ra_grand_runs::{GrandEffect, GrandFault};
 use ra_upgrade::laws::answer_is_read;
 
 /// How many bytes a count takes of those that are there.

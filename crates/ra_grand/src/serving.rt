@@ -3,26 +3,25 @@ ghost use Rattle.std.specs.Prelude.{◌≡◌, ◌<◌, [], length, IfOk};
 ghost use Rattle.ra_base.specs.declared.event.Side.TheVariants as sides;
 ghost use Rattle.ra_link_core.specs.Makes.{outcome_of};
 ghost use Rattle.ra_model.specs.Refusals.{or_fault};
-ghost use Rattle.ra_grand.specs.ClientLinks.{HasUnread};
-ghost use Rattle.ra_grand.specs.Fits.{MovesFit};
-ghost use Rattle.ra_grand.specs.Grands as grand;
-ghost use Rattle.ra_grand.specs.GrandEffects as effects;
-ghost use Rattle.ra_grand.specs.GrandRefusals as refusals;
-ghost use Rattle.ra_grand.specs.GrandRuns.{bytes_up};
+ghost use Rattle.ra_grand_clients.specs.ClientLinks.{HasUnread};
+ghost use Rattle.ra_grand_runs.specs.Fits.{MovesFit};
+ghost use Rattle.ra_grand_runs.specs.Grands as grand;
+ghost use Rattle.ra_grand_runs.specs.GrandEffects as effects;
+ghost use Rattle.ra_grand_runs.specs.GrandRefusals as refusals;
+ghost use Rattle.ra_grand_runs.specs.GrandRuns.{bytes_up};
 ghost use Rattle.ra_grand.specs.GrandStates.{StandsForGrand};
-ghost use Rattle.ra_grand.specs.GrandViews.{Answers, effect_of};
-ghost use Rattle.ra_grand.specs.Marks.{Mark};
-ghost use Rattle.ra_grand.specs.ServedLinks.{piece_came, server_left};
+ghost use Rattle.ra_grand_runs.specs.GrandViews.{Answers, effect_of};
+ghost use Rattle.ra_grand_runs.specs.Marks.{Mark};
+ghost use Rattle.ra_grand_runs.specs.ServedLinks.{piece_came, server_left};
 ghost use Rattle.ra_grand.specs.Servings.{WaitsAt, ReceivesAt, DeliversAt, outcome_after};
-ghost use Rattle.ra_grand.specs.SetUps.{secret, shake_settings};
+ghost use Rattle.ra_grand_runs.specs.SetUps.{secret, shake_settings};
 ghost use Rattle.ra_grand.specs.Spots.{IsThere};
 
-use crate::effect::GrandEffect;
-use crate::fault::GrandFault;
-use crate::settings::ServerSettings;
 use crate::spot::Spot;
 use crate::world::GrandWorld;
 use ra_base::{Count, Message, NoMemory, Side};
+use ra_grand_runs::{GrandEffect, GrandFault};
+use ra_grand_server::ServerSettings;
 use ra_link_core::CoreEnd;
 
 /// The end of a link whose bytes were put on it, or not for want of memory.

@@ -20,7 +20,7 @@ use Rattle.ra_session.specs.SessionRefusals.{Refusal, ended, ids_spent, unless_k
 use Rattle.ra_session.specs.Sessions.{Session, is_management}
 use Rattle.ra_channel_laws.proofs.Asking.{asks_call, asks_listen, asks_cancel, asks_dispose}
 use Rattle.ra_channel_laws.proofs.Beginning.{channels_begin}
-use Rattle.ra_grand.specs.SetUps.{context}
+use Rattle.ra_grand_runs.specs.SetUps.{context}
 use Rattle.ra_grand_laws.specs.ChannelParts.{HearsNone, ChannelsOf}
 use Rattle.ra_grand_laws.proofs.ChannelSides.{Stays}
 use Rattle.ra_grand_laws.proofs.ChannelTurns.{no_management}

@@ -29,9 +29,9 @@ use Rattle.ra_dial.specs.Handshakes.{Head, Look, is_open, goes_on, fails as spoi
 use Rattle.ra_dial.specs.Links.{loses, next_epoch, attaches_unless, attaches, after_look, shakes, feeds_unless, feeds_attached, act_after, after_turn, turns_unless, turns, ticks_unless, ticks, leaves_unless, leaves}
 use Rattle.ra_dial.specs.ShakingStates.{ShakingState}
 use Rattle.ra_dial.specs.Table.{by_event, is_late, is_frame, on_event, step, session_after}
-use Rattle.ra_grand.specs.Draws.{draws_after}
-use Rattle.ra_grand.specs.GrandClients.{Client, dials, dialled, asked}
-use Rattle.ra_grand.specs.SetUps.{answer_at}
+use Rattle.ra_grand_runs.specs.Draws.{draws_after}
+use Rattle.ra_grand_runs.specs.GrandClients.{Client, dials, dialled, asked}
+use Rattle.ra_grand_runs.specs.SetUps.{answer_at}
 use Rattle.ra_grand_laws.specs.ChannelParts.{ChannelsOf}
 use Rattle.ra_grand_laws.specs.Outcomes.{happening_of}
 use Rattle.ra_grand_laws.proofs.ChannelSides.{Stays, stays_itself, stays_on, stays_silent, stays_ticked}

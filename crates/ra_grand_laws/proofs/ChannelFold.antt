@@ -18,18 +18,12 @@ use Rattle.ra_channel_laws.specs.Channels.{settled_in, fired_in}
 use Rattle.ra_script.specs.GrandLines.{GrandEventFits}
 use Rattle.ra_script.specs.declared.grand_line.GrandEvent.{GrandEvent}
 use Rattle.ra_script.specs.declared.grand_line.GrandEvent.TheVariants as events
-use Rattle.ra_grand.specs.GrandClients.{GrandLink, Client}
-use Rattle.ra_grand.specs.GrandRefusals.{Refusal, link_over, of_link, of_client, unrefused, if_session, if_over, if_unread, if_not_dialling, refusal}
-use Rattle.ra_grand.specs.GrandRuns.{on_session, bytes_up, bytes_down, comes_down, cuts, happens, unless as kept_unless, after}
-use Rattle.ra_grand.specs.Grands.{Grand, Found, find_link, on_link, new_grand}
-use Rattle.ra_grand.specs.Marks.{Mark, whole, short, unticked, Entry}
-use Rattle.ra_grand.specs.ServedLinks.{piece_came, server_left}
-use Rattle.ra_run_laws.specs.Runs.{IsUnbroken, unless}
-use Rattle.ra_run_laws.proofs.Lists.{none_there, there_is}
-use Rattle.ra_run_laws.proofs.Rising.{step_after}
-use Rattle.ra_run_laws.proofs.RisingHubs.{HaveRows}
-use Rattle.ra_link_laws.specs.Parts.{WorldKeeps}
-use Rattle.ra_link_laws.proofs.WorldLinks.{IsHere, chosen}
+use Rattle.ra_grand_runs.specs.GrandClients.{GrandLink, Client}
+use Rattle.ra_grand_runs.specs.GrandRefusals.{Refusal, link_over, of_link, of_client, unrefused, if_session, if_over, if_unread, if_not_dialling, refusal}
+use Rattle.ra_grand_runs.specs.GrandRuns.{on_session, bytes_up, bytes_down, comes_down, cuts, happens, unless as kept_unless, after}
+use Rattle.ra_grand_runs.specs.Grands.{Grand, Found, find_link, on_link, new_grand}
+use Rattle.ra_grand_runs.specs.Marks.{Mark, whole, short, unticked, Entry}
+use Rattle.ra_grand_runs.specs.ServedLinks.{piece_came, server_left}
 use Rattle.ra_grand_laws.specs.ChannelParts.{ChannelsKeep}
 use Rattle.ra_grand_laws.specs.Outcomes.{framed, settled_by, fired_by}
 use Rattle.ra_grand_laws.proofs.ChannelAsks.{call_stays, listen_stays, dispose_stays, say_stays}

@@ -18,13 +18,11 @@ use Rattle.ra_hub.specs.Sweeps.{swept, grace_is_over}
 use Rattle.ra_channel_laws.specs.Channels.{ChannelsHold}
 use Rattle.ra_channel_laws.proofs.Answering.{server_answer}
 use Rattle.ra_channel_laws.proofs.Lists.{all_both}
-use Rattle.ra_grand.specs.Grands.{Grand}
-use Rattle.ra_grand.specs.GrandSweeps.{left_by, sweeps}
-use Rattle.ra_grand.specs.Marks.{Mark}
-use Rattle.ra_grand.specs.SetUps.{context}
-use Rattle.ra_grand.specs.Works.{Telling, answers, speaks, told, telling, telling_refusal, Told, told_to, told_by, session_by, unless_ended, misses, tells, without_job, work_by, worked}
-use Rattle.ra_run_laws.proofs.Lists.{none_there, there_is}
-use Rattle.ra_run_laws.proofs.Rising.{told_session}
+use Rattle.ra_grand_runs.specs.Grands.{Grand}
+use Rattle.ra_grand_runs.specs.GrandSweeps.{left_by, sweeps}
+use Rattle.ra_grand_runs.specs.Marks.{Mark}
+use Rattle.ra_grand_runs.specs.SetUps.{context}
+use Rattle.ra_grand_runs.specs.Works.{Telling, answers, speaks, told, telling, telling_refusal, Told, told_to, told_by, session_by, unless_ended, misses, tells, without_job, work_by, worked}
 use Rattle.ra_grand_laws.specs.ChannelParts.{WorkFits, HearsNone, ChannelsKeep}
 use Rattle.ra_grand_laws.proofs.ChannelAsks.{other_kind, no_say, said_hears}
 use Rattle.ra_grand_laws.proofs.ChannelSides.{Becomes, becomes_itself, becomes_mapped, keeps_swept}

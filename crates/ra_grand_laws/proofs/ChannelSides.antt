@@ -16,7 +16,7 @@ use Rattle.ra_channel_laws.specs.Channels.{ChannelsHold, SaysNothing}
 use Rattle.ra_channel_laws.proofs.Answering.{server_tick, client_tick}
 use Rattle.ra_channel_laws.proofs.Links.{client_silent, server_silent}
 use Rattle.ra_channel_laws.proofs.Silence.{silent_end}
-use Rattle.ra_grand.specs.SetUps.{context}
+use Rattle.ra_grand_runs.specs.SetUps.{context}
 use Rattle.ra_grand_laws.specs.ChannelParts.{HearsNone, ChannelsOf}
 
 -- ---- the client's session

@@ -11,21 +11,14 @@ use Rattle.ra_link_core.specs.LinkRuns.{Serving, End}
 use Rattle.ra_script.specs.GrandLines.{GrandEventFits}
 use Rattle.ra_script.specs.declared.grand_line.GrandEvent.{GrandEvent}
 use Rattle.ra_script.specs.declared.grand_line.GrandEvent.TheVariants as events
-use Rattle.ra_grand.specs.Fits.{IsPart, MarkFits, MovesFit, EventFits, RunFits}
-use Rattle.ra_grand.specs.GrandClients.{GrandLink, Client}
-use Rattle.ra_grand.specs.GrandRefusals.{Refusal, link_over, of_link, if_over, if_unread, refusal}
-use Rattle.ra_grand.specs.GrandRuns.{bytes_up, happens, unless as kept_unless, after, run}
-use Rattle.ra_grand.specs.Grands.{Grand, Place, Found, with_link, found_link, found_client, found_at, on_link, new_grand}
-use Rattle.ra_grand.specs.GrandSweeps.{sweeps}
-use Rattle.ra_grand.specs.Marks.{Mark, whole, short, unticked, Entry}
-use Rattle.ra_grand.specs.ServedLinks.{serving_at, served, piece_came}
-use Rattle.ra_run_laws.specs.Runs.{IsUnbroken, HasKey, HaveKeys, HaveRequests, unless}
-use Rattle.ra_run_laws.proofs.Rising.{step_after, rows_new}
-use Rattle.ra_run_laws.proofs.RisingHubs.{HaveRows}
-use Rattle.ra_link_laws.specs.Parts.{WorldKeeps}
-use Rattle.ra_link_laws.proofs.Folding.{keeps_after, keeps_new, not_over, not_over_at}
-use Rattle.ra_link_laws.proofs.WorldLinks.{IsHere, StandsAt, stands_at, chosen}
-use Rattle.ra_link_laws.proofs.WorldSteps.{world_changes}
+use Rattle.ra_grand_runs.specs.Fits.{IsPart, MarkFits, MovesFit, EventFits, RunFits}
+use Rattle.ra_grand_runs.specs.GrandClients.{GrandLink, Client}
+use Rattle.ra_grand_runs.specs.GrandRefusals.{Refusal, link_over, of_link, if_over, if_unread, refusal}
+use Rattle.ra_grand_runs.specs.GrandRuns.{bytes_up, happens, unless as kept_unless, after, run}
+use Rattle.ra_grand_runs.specs.Grands.{Grand, Place, Found, with_link, found_link, found_client, found_at, on_link, new_grand}
+use Rattle.ra_grand_runs.specs.GrandSweeps.{sweeps}
+use Rattle.ra_grand_runs.specs.Marks.{Mark, whole, short, unticked, Entry}
+use Rattle.ra_grand_runs.specs.ServedLinks.{serving_at, served, piece_came}
 use Rattle.ra_grand_laws.specs.ChannelParts.{ChannelsKeep}
 use Rattle.ra_grand_laws.specs.GoodEnds.{IsGoodIfAny}
 use Rattle.ra_grand_laws.specs.Outcomes.{settled_by, fired_by, settled as settled_over, fired as fired_over}

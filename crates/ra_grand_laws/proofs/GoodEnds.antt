@@ -9,16 +9,13 @@ use Rattle.ra_ipc.specs.ChannelPairs.{Outcome}
 use Rattle.ra_link_core.specs.LinkRuns.{End, Serving}
 use Rattle.ra_script.specs.declared.grand_line.GrandEvent.{GrandEvent}
 use Rattle.ra_script.specs.declared.grand_line.GrandEvent.TheVariants as events
-use Rattle.ra_grand.specs.GrandClients.{GrandLink, Client}
-use Rattle.ra_grand.specs.GrandEffects.{moved, moved_by, moved_up, moved_down, next_id, effect}
-use Rattle.ra_grand.specs.GrandRefusals.{Refusal, link_over, of_link, if_over, if_unread, refusal}
-use Rattle.ra_grand.specs.GrandRuns.{bytes_up, bytes_down}
-use Rattle.ra_grand.specs.Grands.{Grand, Place, Found, found_link, found_client, found_at, find_link}
-use Rattle.ra_grand.specs.Marks.{Mark, whole, short, unticked, Entry}
-use Rattle.ra_grand.specs.ServedLinks.{served}
-use Rattle.ra_link_laws.specs.Parts.{WorldKeeps}
-use Rattle.ra_link_laws.proofs.Folding.{not_over, not_over_at}
-use Rattle.ra_link_laws.proofs.WorldLinks.{IsHere, StandsAt, stands_at, chosen}
+use Rattle.ra_grand_runs.specs.GrandClients.{GrandLink, Client}
+use Rattle.ra_grand_runs.specs.GrandEffects.{moved, moved_by, moved_up, moved_down, next_id, effect}
+use Rattle.ra_grand_runs.specs.GrandRefusals.{Refusal, link_over, of_link, if_over, if_unread, refusal}
+use Rattle.ra_grand_runs.specs.GrandRuns.{bytes_up, bytes_down}
+use Rattle.ra_grand_runs.specs.Grands.{Grand, Place, Found, found_link, found_client, found_at, find_link}
+use Rattle.ra_grand_runs.specs.Marks.{Mark, whole, short, unticked, Entry}
+use Rattle.ra_grand_runs.specs.ServedLinks.{served}
 use Rattle.ra_grand_laws.specs.ChannelParts.{ChannelsKeep}
 use Rattle.ra_grand_laws.specs.GoodEnds.{IsGoodEnd, IsGoodIfAny}
 use Rattle.ra_grand_laws.proofs.ServedEnds.{piece_ends}

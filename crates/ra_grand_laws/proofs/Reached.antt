@@ -2,13 +2,10 @@
 use Rattle.std.proofs.Common.{◌≡◌, ℕ, zero, suc, Some, List}
 use Rattle.ra_base.specs.declared.kind.Kind.TheVariants.{Tunnel}
 use Rattle.ra_model.specs.Links.{at_number}
-use Rattle.ra_grand.specs.GrandClients.{Client}
-use Rattle.ra_grand.specs.GrandRuns.{run}
-use Rattle.ra_grand.specs.Grands.{Grand, new_grand}
-use Rattle.ra_grand.specs.Marks.{Entry}
-use Rattle.ra_run_laws.specs.Runs.{IsRun}
-use Rattle.ra_run_laws.proofs.Lists.{none_there}
-use Rattle.ra_link_laws.specs.Parts.{WorldKeeps}
+use Rattle.ra_grand_runs.specs.GrandClients.{Client}
+use Rattle.ra_grand_runs.specs.GrandRuns.{run}
+use Rattle.ra_grand_runs.specs.Grands.{Grand, new_grand}
+use Rattle.ra_grand_runs.specs.Marks.{Entry}
 use Rattle.ra_grand_laws.specs.ChannelParts.{ChannelsKeep}
 use Rattle.ra_grand_laws.specs.Outcomes.{settled, fired}
 use Rattle.ra_grand_laws.proofs.FittingRuns.{fits_run}

@@ -8,19 +8,18 @@ use Rattle.ra_model.specs.Links.{Link, at_number, readable}
 use Rattle.ra_hub.specs.Hubs.{Hub, row}
 use Rattle.ra_link_core.specs.HubEvents.{HubEvent, events_bytes, events_done}
 use Rattle.ra_link_core.specs.LinkRuns.{Serving, Welcome, hub_left}
-use Rattle.ra_grand.specs.Fits.{IsPart}
-use Rattle.ra_grand.specs.GrandClients.{GrandLink}
-use Rattle.ra_grand.specs.Grands.{Grand, Found, with_link}
-use Rattle.ra_grand.specs.Marks.{short}
-use Rattle.ra_grand.specs.Reached.{Begins}
-use Rattle.ra_grand.specs.ServedLinks.{draw_at, serving_at, served, came, left, piece_came}
-use Rattle.ra_run_laws.proofs.Lists.{there_is}
-use Rattle.ra_link_laws.specs.Parts.{HasWelcome, IsWelcome, WorldKeeps}
-use Rattle.ra_link_laws.proofs.ServedFocus.{Ground, Focus}
-use Rattle.ra_link_laws.proofs.ServedParts.{IsFound, part_at, ground_at, focus_at, changes_by}
-use Rattle.ra_link_laws.proofs.ServedRuns.{link_after}
-use Rattle.ra_link_laws.proofs.ServedTexts.{follows_read}
-use Rattle.ra_link_laws.proofs.WorldSteps.{Changes}
+use Rattle.ra_grand_runs.specs.Fits.{IsPart}
+use Rattle.ra_grand_runs.specs.GrandClients.{GrandLink}
+use Rattle.ra_grand_runs.specs.Grands.{Grand, Found, with_link}
+use Rattle.ra_grand_runs.specs.Marks.{short}
+use Rattle.ra_grand_runs.specs.Reached.{Begins}
+use Rattle.ra_grand_runs.specs.ServedLinks.{draw_at, serving_at, served, came, left, piece_came}
+use Rattle.ra_grand_laws.specs.Parts.{HasWelcome, IsWelcome, WorldKeeps}
+use Rattle.ra_grand_laws.proofs.Lists.{there_is}
+use Rattle.ra_grand_laws.proofs.ServedFocus.{Ground, Focus}
+use Rattle.ra_grand_laws.proofs.ServedParts.{IsFound, part_at, ground_at, focus_at, changes_by}
+use Rattle.ra_grand_laws.proofs.ServedRuns.{link_after}
+use Rattle.ra_grand_laws.proofs.ServedTexts.{follows_read}
 use Rattle.ra_grand_laws.proofs.ShortAdmissions.{Stopped}
 use Rattle.ra_grand_laws.proofs.ShortLinks.{Begun, Fronts, front_going}
 use Rattle.ra_grand_laws.proofs.ShortOpenings.{served_stopped}

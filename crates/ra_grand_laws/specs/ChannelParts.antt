@@ -12,9 +12,9 @@ use Rattle.ra_session.specs.Saying.{serving}
 use Rattle.ra_session.specs.Sessions.{Session}
 use Rattle.ra_hub.specs.Jobs.{SeenJob}
 use Rattle.ra_channel_laws.specs.Channels.{ChannelsHold}
-use Rattle.ra_grand.specs.GrandClients.{Client}
-use Rattle.ra_grand.specs.Grands.{Grand}
-use Rattle.ra_grand.specs.SetUps.{context}
+use Rattle.ra_grand_runs.specs.GrandClients.{Client}
+use Rattle.ra_grand_runs.specs.Grands.{Grand}
+use Rattle.ra_grand_runs.specs.SetUps.{context}
 use Rattle.std.specs.Prelude.{slice_get}
 
 -- before the first admission the server's session is one that begins

@@ -5,8 +5,8 @@ use Rattle.ra_model.specs.Frames.{joined}
 use Rattle.ra_model.specs.Pairs.{messages, IsJoining, IsFront, HearsInOrder, KeepsUnheard}
 use Rattle.ra_model.specs.Worlds.{Peer}
 use Rattle.ra_link_core.specs.LinkRuns.{Welcome}
-use Rattle.ra_grand.specs.GrandClients.{GrandLink}
-use Rattle.ra_grand.specs.Reached.{read_of}
+use Rattle.ra_grand_runs.specs.GrandClients.{GrandLink}
+use Rattle.ra_grand_runs.specs.Reached.{read_of}
 
 -- each has heard the first of the messages that the other said, and keeps all of its own that are not acknowledged
 pub record BothHear (client server : Peer) : Type 0 where

@@ -21,8 +21,8 @@ use Rattle.ra_link_core.specs.LinkRuns.{Welcome, pause_bytes}
 use Rattle.ra_dial.specs.Clients.{request_of}
 use Rattle.ra_dial.specs.Handshakes.{Look, is_open, goes_on, fails, refuses, accepts, in_frame}
 use Rattle.ra_dial.specs.ShakingStates.{ShakingState}
-use Rattle.ra_grand.specs.Reached.{Agrees}
-use Rattle.ra_grand.specs.SetUps.{secret, shake_settings, settings_for}
+use Rattle.ra_grand_runs.specs.Reached.{Agrees}
+use Rattle.ra_grand_runs.specs.SetUps.{secret, shake_settings, settings_for}
 
 -- ---- texts. A challenge is made of drawn bytes
 

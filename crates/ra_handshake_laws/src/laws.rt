@@ -7,7 +7,7 @@ ghost use Rattle.ra_link_core.specs.LinkRuns.{Welcome};
 ghost use Rattle.ra_dial.specs.Handshakes.{looked_at, fed};
 ghost use Rattle.ra_dial.specs.Clients.{new_shaking, request_of};
 ghost use Rattle.ra_dial.specs.ShakingStates.{ShakingState};
-ghost use Rattle.ra_grand.specs.SetUps.{settings_for, request_head, answer_head, grounds};
+ghost use Rattle.ra_grand_runs.specs.SetUps.{settings_for, request_head, answer_head, grounds};
 ghost use Rattle.ra_handshake_laws.specs.Handshakes.{client_text, OpensAt, Speaks, ReadsHandshake, HasSaid, LooksTo};
 
 /// The opening of a link at the server, on a front of what its client writes: it asks for the client's session exactly where all was read,

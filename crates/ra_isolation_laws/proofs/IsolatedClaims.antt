@@ -33,13 +33,13 @@ use Rattle.ra_dial.specs.Handshakes.{Head as AnswerHead, Look, is_open, goes_on,
 use Rattle.ra_dial.specs.Links.{attaches, attaches_unless, next_epoch, after_look, shakes}
 use Rattle.ra_dial.specs.ShakingStates.{ShakingState}
 use Rattle.ra_dial.specs.Table.{step, on_event, by_event, on_tick, on_linked, on_no_link, on_piece, on_frame, on_link_lost, on_stop, is_late, unless_over, session_after, draws_by, out}
-use Rattle.ra_grand.specs.Draws.{draws_after}
-use Rattle.ra_grand.specs.GrandClients.{GrandLink, Client, new_client, writes_up, sends, dials, dialled, fresh_link, linked, asked}
-use Rattle.ra_grand.specs.GrandRuns.{takes}
-use Rattle.ra_grand.specs.Lasts.{with_last, with_last_of}
-use Rattle.ra_grand.specs.SetUps.{context, answer_at}
-use Rattle.ra_run_laws.proofs.Lists.{none_there, there_is}
-use Rattle.ra_link_laws.specs.Parts.{IsAttached, IsWelcome, HasWelcome, LinkKeeps, StageKeeps, PartHolds}
+use Rattle.ra_grand_runs.specs.Draws.{draws_after}
+use Rattle.ra_grand_runs.specs.GrandClients.{GrandLink, Client, new_client, writes_up, sends, dials, dialled, fresh_link, linked, asked}
+use Rattle.ra_grand_runs.specs.GrandRuns.{takes}
+use Rattle.ra_grand_runs.specs.Lasts.{with_last, with_last_of}
+use Rattle.ra_grand_runs.specs.SetUps.{context, answer_at}
+use Rattle.ra_grand_laws.specs.Parts.{IsAttached, IsWelcome, HasWelcome, LinkKeeps, StageKeeps, PartHolds}
+use Rattle.ra_grand_laws.proofs.Lists.{none_there, there_is}
 
 abbrev claims_in : Result Upgrade HeadFault → Bool
 claims_in (Ok upgrade) = upgrade.reconnection

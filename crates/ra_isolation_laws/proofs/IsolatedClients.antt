@@ -12,15 +12,15 @@ use Rattle.ra_views.specs.SessionLinks.{KeepsLink}
 use Rattle.ra_dial.specs.declared.values.DialEvent.{DialEvent}
 use Rattle.ra_dial.specs.declared.values.DialEvent.TheVariants as dial_events
 use Rattle.ra_script.specs.declared.grand_line.GrandEvent.{GrandEvent}
-use Rattle.ra_grand.specs.GrandClients.{GrandLink, Client, new_client, writes_up, fresh_link, dialled, linked, asked}
-use Rattle.ra_grand.specs.GrandRuns.{joins, with_place, links}
-use Rattle.ra_grand.specs.Grands.{Grand, Place, changed, with_client}
-use Rattle.ra_grand.specs.Lasts.{with_last, with_last_of}
-use Rattle.ra_run_laws.proofs.Lists.{none_there, there_is, get_front}
-use Rattle.ra_isolation_laws.specs.Isolation.{jobs_for, is_of, if_own, own_after, alone}
-use Rattle.ra_isolation_laws.proofs.IsolatedClaims.{Moves, moves_dialer, moves_linked, moves_asked, claims_new}
-use Rattle.ra_isolation_laws.proofs.IsolatedHubs.{Agree}
-use Rattle.ra_isolation_laws.proofs.IsolatedWorlds.{own_places, one_more, at_end, there_small, Own, Mine, Alike, own_is, Between, own_step, left_put, others_step}
+use Rattle.ra_grand_runs.specs.GrandClients.{GrandLink, Client, new_client, writes_up, fresh_link, dialled, linked, asked}
+use Rattle.ra_grand_runs.specs.GrandRuns.{joins, with_place, links}
+use Rattle.ra_grand_runs.specs.Grands.{Grand, Place, changed, with_client}
+use Rattle.ra_grand_runs.specs.Lasts.{with_last, with_last_of}
+use Rattle.ra_grand_laws.specs.Isolation.{jobs_for, is_of, if_own, own_after, alone}
+use Rattle.ra_grand_laws.proofs.IsolatedClaims.{Moves, moves_dialer, moves_linked, moves_asked, claims_new}
+use Rattle.ra_grand_laws.proofs.IsolatedHubs.{Agree}
+use Rattle.ra_grand_laws.proofs.IsolatedWorlds.{own_places, one_more, at_end, there_small, Own, Mine, Alike, own_is, Between, own_step, left_put, others_step}
+use Rattle.ra_grand_laws.proofs.Lists.{none_there, there_is, get_front}
 
 -- ---- the links of a client keep their count
 

@@ -28,11 +28,11 @@ use Rattle.ra_registry.proofs.SameKeys.{same_key_is, same_key_other_way}
 use Rattle.ra_session.specs.Sessions.{Session}
 use Rattle.ra_hub.specs.Hubs.{Hub, row}
 use Rattle.ra_hub.specs.Sweeps.{grace_is_over, swept}
-use Rattle.ra_grand.specs.GrandSweeps.{in_order, expired_keys, sweeps}
-use Rattle.ra_grand.specs.Grands.{Grand}
-use Rattle.ra_grand.specs.Marks.{whole}
-use Rattle.ra_isolation_laws.proofs.IsolatedHubs.{Agree}
-use Rattle.ra_isolation_laws.proofs.IsolatedWorlds.{Alike, Between, left_itself, others_step}
+use Rattle.ra_grand_runs.specs.GrandSweeps.{in_order, expired_keys, sweeps}
+use Rattle.ra_grand_runs.specs.Grands.{Grand}
+use Rattle.ra_grand_runs.specs.Marks.{whole}
+use Rattle.ra_grand_laws.proofs.IsolatedHubs.{Agree}
+use Rattle.ra_grand_laws.proofs.IsolatedWorlds.{Alike, Between, left_itself, others_step}
 
 -- ---- a key that the history does not name
 

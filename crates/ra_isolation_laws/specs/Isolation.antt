@@ -14,15 +14,15 @@ use Rattle.ra_link_core.specs.HubEvents.HubEvent.{Admit, Attach, Turn, Lose, Clo
 use Rattle.ra_link_core.specs.LinkRuns.{Serving, piece_done}
 use Rattle.ra_script.specs.declared.grand_line.GrandEvent.{GrandEvent}
 use Rattle.ra_script.specs.declared.grand_line.GrandEvent.TheVariants as events
-use Rattle.ra_grand.specs.Draws.{own_then, draws_after, first_draws}
-use Rattle.ra_grand.specs.GrandClients.{GrandLink, Client}
-use Rattle.ra_grand.specs.GrandRefusals.{Refusal, refusal}
-use Rattle.ra_grand.specs.GrandRuns.{bytes_up, happens, after}
-use Rattle.ra_grand.specs.GrandSweeps.{sweeps}
-use Rattle.ra_grand.specs.Grands.{Grand, Found, find_link, put_link, on_link}
-use Rattle.ra_grand.specs.Marks.{whole, Entry}
-use Rattle.ra_grand.specs.ServedLinks.{serving_at, served, settled, came_whole, end_after}
-use Rattle.ra_grand.specs.SetUps.{grounds}
+use Rattle.ra_grand_runs.specs.Draws.{own_then, draws_after, first_draws}
+use Rattle.ra_grand_runs.specs.GrandClients.{GrandLink, Client}
+use Rattle.ra_grand_runs.specs.GrandRefusals.{Refusal, refusal}
+use Rattle.ra_grand_runs.specs.GrandRuns.{bytes_up, happens, after}
+use Rattle.ra_grand_runs.specs.GrandSweeps.{sweeps}
+use Rattle.ra_grand_runs.specs.Grands.{Grand, Found, find_link, put_link, on_link}
+use Rattle.ra_grand_runs.specs.Marks.{whole, Entry}
+use Rattle.ra_grand_runs.specs.ServedLinks.{serving_at, served, settled, came_whole, end_after}
+use Rattle.ra_grand_runs.specs.SetUps.{grounds}
 
 -- ---- what a part sees
 

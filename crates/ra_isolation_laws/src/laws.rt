@@ -1,9 +1,9 @@
 //! The laws.
 ghost use Rattle.std.specs.Prelude.{List};
 ghost use Rattle.ra_base.specs.declared.key.Key.{Key};
-ghost use Rattle.ra_grand.specs.Marks.{Entry};
-ghost use Rattle.ra_grand.specs.Grands.{new_grand};
-ghost use Rattle.ra_grand.specs.GrandRuns.{run};
+ghost use Rattle.ra_grand_runs.specs.Marks.{Entry};
+ghost use Rattle.ra_grand_runs.specs.Grands.{new_grand};
+ghost use Rattle.ra_grand_runs.specs.GrandRuns.{run};
 ghost use Rattle.ra_run_laws.specs.Runs.{AreWhole, HaveKeys};
 ghost use Rattle.ra_isolation_laws.specs.Isolation.{alone, view_of};
 ghost use Rattle.ra_isolation_laws.specs.Parted.{SamePart};

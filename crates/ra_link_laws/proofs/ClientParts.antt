@@ -17,15 +17,15 @@ use Rattle.ra_dial.specs.Acts.{Act, nothing, rest_until, connect, ends}
 use Rattle.ra_dial.specs.Attempts.{rest_or_drop, fails, wait_before, next_attempt, patience, waits_until, waits_since}
 use Rattle.ra_dial.specs.Table.{step, on_event, by_event, is_late, draws_by}
 use Rattle.ra_dial.specs.ShakingStates.{ShakingState}
-use Rattle.ra_grand.specs.Draws.{draws_after}
-use Rattle.ra_grand.specs.GrandClients.{Client, dialled, asked}
-use Rattle.ra_grand.specs.Reached.{BringsNothing}
-use Rattle.ra_grand.specs.SetUps.{answer_at}
-use Rattle.ra_link_laws.specs.Parts.{PartHolds}
-use Rattle.ra_link_laws.proofs.ClientAttached.{live_of, called_on, same_on, loses_on, ticks_on, leaves_on, turns_on, after_if}
-use Rattle.ra_link_laws.proofs.ClientGrounds.{After, with_stage, ground_of}
-use Rattle.ra_link_laws.proofs.ClientLooks.{frame_shakes}
-use Rattle.ra_link_laws.proofs.ClientSends.{IsApart, rests}
+use Rattle.ra_grand_runs.specs.Draws.{draws_after}
+use Rattle.ra_grand_runs.specs.GrandClients.{Client, dialled, asked}
+use Rattle.ra_grand_runs.specs.Reached.{BringsNothing}
+use Rattle.ra_grand_runs.specs.SetUps.{answer_at}
+use Rattle.ra_grand_laws.specs.Parts.{PartHolds}
+use Rattle.ra_grand_laws.proofs.ClientAttached.{live_of, called_on, same_on, loses_on, ticks_on, leaves_on, turns_on, after_if}
+use Rattle.ra_grand_laws.proofs.ClientGrounds.{After, with_stage, ground_of}
+use Rattle.ra_grand_laws.proofs.ClientLooks.{frame_shakes}
+use Rattle.ra_grand_laws.proofs.ClientSends.{IsApart, rests}
 
 -- ---- a client whose session is not attached
 

@@ -16,12 +16,12 @@ use Rattle.ra_link_core.specs.LinkRuns.{Welcome}
 use Rattle.ra_dial.specs.declared.stage.Stage.{Stage}
 use Rattle.ra_dial.specs.declared.stage.Stage.TheVariants as stages
 use Rattle.ra_dial.specs.ShakingStates.{ShakingState}
-use Rattle.ra_grand.specs.GrandClients.{GrandLink, Client}
-use Rattle.ra_grand.specs.Grands.{with_link}
-use Rattle.ra_grand.specs.Reached.{Begins, read_of}
-use Rattle.ra_run_laws.proofs.Lists.{there_is, same_or_not, get_same, get_other}
-use Rattle.ra_handshake_laws.specs.Handshakes.{ReadsHandshake}
-use Rattle.ra_link_laws.specs.Parts.{Drawn, LinkKeeps, Shakes, IsAttached, HasLast, StageKeeps, IsServer, WritesWhole, PartHolds}
+use Rattle.ra_grand_runs.specs.GrandClients.{GrandLink, Client}
+use Rattle.ra_grand_runs.specs.Grands.{with_link}
+use Rattle.ra_grand_runs.specs.Reached.{Begins, read_of}
+use Rattle.ra_grand_laws.specs.Handshakes.{ReadsHandshake}
+use Rattle.ra_grand_laws.specs.Parts.{Drawn, LinkKeeps, Shakes, IsAttached, HasLast, StageKeeps, IsServer, WritesWhole, PartHolds}
+use Rattle.ra_grand_laws.proofs.Lists.{there_is, same_or_not, get_same, get_other}
 
 -- what stays of a client: its key, its end of the view, its links before, and where among them this link is
 pub record Ground : Type 0 where

@@ -11,15 +11,15 @@ use Rattle.ra_hub.specs.Hubs.{Hub, row}
 use Rattle.ra_link_core.specs.HubEvents.{event_done}
 use Rattle.ra_link_core.specs.HubEvents.HubEvent.{Close}
 use Rattle.ra_link_core.specs.LinkRuns.{End, Serving, Welcome, closes, ends_by, hub_left}
-use Rattle.ra_grand.specs.GrandClients.{GrandLink}
-use Rattle.ra_grand.specs.Reached.{Begins}
-use Rattle.ra_grand.specs.ServedLinks.{left, end_after}
-use Rattle.ra_handshake_laws.specs.Handshakes.{Speaks}
-use Rattle.ra_link_laws.proofs.HubMoves.{OthersStay, HubMoves, HubCalls, IsOwn, others_trans, closed_hub, left_hub}
-use Rattle.ra_link_laws.proofs.ServedFocus.{Ground, Focus}
-use Rattle.ra_link_laws.proofs.ServedMoves.{focus_rows, focus_called, focus_moved}
-use Rattle.ra_link_laws.proofs.ServedTexts.{Follows, IsPut, follows_nothing, keeps_put, below_put, welcome_read, over_stands}
-use Rattle.ra_link_laws.proofs.ServedTurns.{seat_at}
+use Rattle.ra_grand_runs.specs.GrandClients.{GrandLink}
+use Rattle.ra_grand_runs.specs.Reached.{Begins}
+use Rattle.ra_grand_runs.specs.ServedLinks.{left, end_after}
+use Rattle.ra_grand_laws.specs.Handshakes.{Speaks}
+use Rattle.ra_grand_laws.proofs.HubMoves.{OthersStay, HubMoves, HubCalls, IsOwn, others_trans, closed_hub, left_hub}
+use Rattle.ra_grand_laws.proofs.ServedFocus.{Ground, Focus}
+use Rattle.ra_grand_laws.proofs.ServedMoves.{focus_rows, focus_called, focus_moved}
+use Rattle.ra_grand_laws.proofs.ServedTexts.{Follows, IsPut, follows_nothing, keeps_put, below_put, welcome_read, over_stands}
+use Rattle.ra_grand_laws.proofs.ServedTurns.{seat_at}
 
 -- ---- the link once it is served so
 

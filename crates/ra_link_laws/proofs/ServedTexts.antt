@@ -8,11 +8,11 @@ use Rattle.ra_base.specs.declared.key.Key.{Key}
 use Rattle.ra_base.specs.declared.key.Seat.{Seat}
 use Rattle.ra_model.specs.Links.{Link, Direction, at_number, readable, read_on, written_to}
 use Rattle.ra_link_core.specs.LinkRuns.{Welcome}
-use Rattle.ra_grand.specs.GrandClients.{GrandLink}
-use Rattle.ra_grand.specs.Reached.{Begins, read_of}
-use Rattle.ra_handshake_laws.specs.Handshakes.{Speaks}
-use Rattle.ra_link_laws.specs.Parts.{Drawn, Carries, IsWelcome, HasWelcome, IsOpening, IsSeated, EndStands, LinkKeeps}
-use Rattle.ra_link_laws.proofs.ServedFocus.{StaysBelow}
+use Rattle.ra_grand_runs.specs.GrandClients.{GrandLink}
+use Rattle.ra_grand_runs.specs.Reached.{Begins, read_of}
+use Rattle.ra_grand_laws.specs.Handshakes.{Speaks}
+use Rattle.ra_grand_laws.specs.Parts.{Drawn, Carries, IsWelcome, HasWelcome, IsOpening, IsSeated, EndStands, LinkKeeps}
+use Rattle.ra_grand_laws.proofs.ServedFocus.{StaysBelow}
 
 -- ---- what is read
 

@@ -24,12 +24,12 @@ use Rattle.ra_dial.specs.declared.stage.Stage.{Stage}
 use Rattle.ra_dial.specs.declared.stage.Stage.TheVariants as stages
 use Rattle.ra_dial.specs.Dialers.{epoch}
 use Rattle.ra_dial.specs.ShakingStates.{ShakingState}
-use Rattle.ra_grand.specs.Draws.{first_draws}
-use Rattle.ra_grand.specs.GrandClients.{ServerEnd, GrandLink, Client}
-use Rattle.ra_grand.specs.Grands.{Grand}
-use Rattle.ra_grand.specs.Reached.{Begins, read_of}
-use Rattle.ra_grand.specs.SetUps.{settings_for, request_head, grounds}
-use Rattle.ra_handshake_laws.specs.Handshakes.{client_text, Speaks, ReadsHandshake, HasSaid}
+use Rattle.ra_grand_runs.specs.Draws.{first_draws}
+use Rattle.ra_grand_runs.specs.GrandClients.{ServerEnd, GrandLink, Client}
+use Rattle.ra_grand_runs.specs.Grands.{Grand}
+use Rattle.ra_grand_runs.specs.Reached.{Begins, read_of}
+use Rattle.ra_grand_runs.specs.SetUps.{settings_for, request_head, grounds}
+use Rattle.ra_grand_laws.specs.Handshakes.{client_text, Speaks, ReadsHandshake, HasSaid}
 
 -- ---- one link
 

@@ -1,7 +1,7 @@
 //! The laws.
-ghost use Rattle.ra_grand.specs.Marks.{Entry};
-ghost use Rattle.ra_grand.specs.Grands.{new_grand, Grand};
-ghost use Rattle.ra_grand.specs.GrandRuns.{after};
+ghost use Rattle.ra_grand_runs.specs.Marks.{Entry};
+ghost use Rattle.ra_grand_runs.specs.Grands.{new_grand, Grand};
+ghost use Rattle.ra_grand_runs.specs.GrandRuns.{after};
 ghost use Rattle.ra_run_laws.specs.Runs.{IsUnbroken, HasKey};
 ghost use Rattle.ra_link_laws.specs.Parts.{WorldKeeps};
 

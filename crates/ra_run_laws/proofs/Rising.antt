@@ -29,19 +29,20 @@ use Rattle.ra_dial.specs.declared.values.DialEvent.{DialEvent}
 use Rattle.ra_dial.specs.declared.values.DialEvent.TheVariants as dial_events
 use Rattle.ra_script.specs.declared.grand_line.GrandEvent.{GrandEvent}
 use Rattle.ra_script.specs.declared.grand_line.GrandEvent.TheVariants as events
-use Rattle.ra_grand.specs.GrandClients.{GrandLink, Client, new_client, dialled, fresh_link, linked, asked}
-use Rattle.ra_grand.specs.GrandRefusals.{Refusal, refusal}
-use Rattle.ra_grand.specs.GrandRuns.{joins, on_dialer, on_session, with_place, links, bytes_up, bytes_down, takes, is_last, comes_down, cuts, happens, unless, after, run}
-use Rattle.ra_grand.specs.Grands.{Grand, Place, Found, changed, with_client, with_link, found_link, found_client, found_at, put_link, on_link, new_grand}
-use Rattle.ra_grand.specs.GrandSweeps.{expired_keys, left_by, sweeps}
-use Rattle.ra_grand.specs.Marks.{Mark, whole, short, unticked, Entry}
-use Rattle.ra_grand.specs.ServedLinks.{draw_at, serving_at, served, came_by, left, piece_came, server_left}
-use Rattle.ra_grand.specs.SetUps.{grounds}
-use Rattle.ra_grand.specs.Works.{Telling, answers, speaks, told, telling, telling_refusal, Told, told_to, told_by, session_by, unless_ended, misses, tells, without_job, work_by, worked}
-use Rattle.ra_run_laws.specs.Rising.{ClientsRise}
-use Rattle.ra_run_laws.proofs.Lists.{there_is, same_or_not, put_other, number_same, number_front}
-use Rattle.ra_run_laws.proofs.RisingClients.{ClientRises, rises_dialled, rises_linked, rises_asked}
-use Rattle.ra_run_laws.proofs.RisingHubs.{HaveRows, HubStep, step_itself, step_trans, step_at, step_events, step_left, step_swept, step_missed}
+use Rattle.ra_grand_runs.specs.GrandClients.{GrandLink, Client, new_client, dialled, fresh_link, linked, asked}
+use Rattle.ra_grand_runs.specs.GrandRefusals.{Refusal, refusal}
+use Rattle.ra_grand_runs.specs.GrandRuns.{joins, on_dialer, on_session, with_place, links, bytes_up, bytes_down, takes, is_last, comes_down, cuts, happens, unless, after, run}
+use Rattle.ra_grand_runs.specs.Grands.{Grand, Place, Found, changed, with_client, with_link, found_link, found_client, found_at, put_link, on_link, new_grand}
+use Rattle.ra_grand_runs.specs.GrandSweeps.{expired_keys, left_by, sweeps}
+use Rattle.ra_grand_runs.specs.Marks.{Mark, whole, short, unticked, Entry}
+use Rattle.ra_grand_runs.specs.ServedLinks.{draw_at, serving_at, served, came_by, left, piece_came, server_left}
+use Rattle.ra_grand_runs.specs.SetUps.{grounds}
+use Rattle.ra_grand_runs.specs.Works.{Telling, answers, speaks, told, telling, telling_refusal, Told, told_by, unless_ended, misses, tells, without_job, work_by, worked}
+use Rattle.ra_grand_laws.specs.Rising.{ClientsRise}
+use Rattle.ra_grand_laws.proofs.HubSteps.{told_session}
+use Rattle.ra_grand_laws.proofs.Lists.{there_is, same_or_not, put_other, number_same, number_front}
+use Rattle.ra_grand_laws.proofs.RisingClients.{ClientRises, rises_dialled, rises_linked, rises_asked}
+use Rattle.ra_grand_laws.proofs.RisingHubs.{HaveRows, HubStep, step_itself, step_trans, step_at, step_events, step_left, step_swept, step_missed}
 
 -- ---- clients
 

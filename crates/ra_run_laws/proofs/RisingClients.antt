@@ -23,9 +23,9 @@ use Rattle.ra_dial.specs.Handshakes.{Head, Look, is_open, goes_on, fails as spoi
 use Rattle.ra_dial.specs.Links.{loses, attaches, attaches_unless, next_epoch, after_look, shakes, feeds_attached, feeds_unless, after_turn, refused_turn, after_refusal, turns_unless, turns, ticks_unless, ticks, leaves_unless, leaves}
 use Rattle.ra_dial.specs.ShakingStates.{ShakingState}
 use Rattle.ra_dial.specs.Table.{step, on_event, by_event, on_tick, on_linked, on_no_link, on_piece, on_frame, on_link_lost, on_stop, is_late, unless_over, session_after, draws_by}
-use Rattle.ra_grand.specs.Draws.{draws_after}
-use Rattle.ra_grand.specs.GrandClients.{Client, sends, dials, dialled, fresh_link, linked, asked}
-use Rattle.ra_grand.specs.SetUps.{answer_at}
+use Rattle.ra_grand_runs.specs.Draws.{draws_after}
+use Rattle.ra_grand_runs.specs.GrandClients.{Client, sends, dials, dialled, fresh_link, linked, asked}
+use Rattle.ra_grand_runs.specs.SetUps.{answer_at}
 
 -- what a step leaves of the dialer's session
 abbrev Later : Dialer → Step → Type 0

@@ -5,8 +5,8 @@ use Rattle.ra_model.specs.Links.{at_number}
 use Rattle.ra_model.specs.Pairs.{IsLater}
 use Rattle.ra_session.specs.Sessions.{Session}
 use Rattle.ra_hub.specs.Hubs.{Hub}
-use Rattle.ra_grand.specs.GrandClients.{Client}
-use Rattle.ra_grand.specs.Grands.{Grand}
+use Rattle.ra_grand_runs.specs.GrandClients.{Client}
+use Rattle.ra_grand_runs.specs.Grands.{Grand}
 
 -- each session of the server is still there, and took nothing back
 abbrev pub HubRises : Hub → Hub → Type 0

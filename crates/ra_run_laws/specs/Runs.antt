@@ -5,10 +5,9 @@ use Rattle.ra_base.specs.declared.kind.Kind.TheVariants.{Tunnel}
 use Rattle.ra_script.specs.GrandLines.{GrandEventFits}
 use Rattle.ra_script.specs.declared.grand_line.GrandEvent.{GrandEvent}
 use Rattle.ra_script.specs.declared.grand_line.GrandEvent.TheVariants as events
-use Rattle.ra_grand.specs.Fits.{RunFits}
-use Rattle.ra_grand.specs.GrandRefusals.{Refusal}
-use Rattle.ra_grand.specs.Grands.{new_grand}
-use Rattle.ra_grand.specs.Marks.{Mark, whole, short, unticked, Entry}
+use Rattle.ra_grand_runs.specs.Fits.{RunFits}
+use Rattle.ra_grand_runs.specs.Grands.{new_grand}
+use Rattle.ra_grand_runs.specs.Marks.{Mark, whole, short, unticked, Entry}
 
 -- memory did not run out at the server's end of a link
 abbrev pub IsUnbroken : Mark → Type 0

@@ -15,13 +15,13 @@ use Rattle.ra_hub.specs.Jobs.{SeenJob}
 use Rattle.ra_hub.specs.Sweeps.{grace_is_over}
 use Rattle.ra_script.specs.declared.grand_line.GrandEvent.{GrandEvent}
 use Rattle.ra_script.specs.declared.grand_line.GrandEvent.TheVariants as events
-use Rattle.ra_grand.specs.GrandRefusals.{refusal}
-use Rattle.ra_grand.specs.GrandRuns.{after}
-use Rattle.ra_grand.specs.GrandSweeps.{left_by}
-use Rattle.ra_grand.specs.Grands.{Grand}
-use Rattle.ra_grand.specs.Marks.{Mark, Entry}
-use Rattle.ra_grand.specs.Works.{Telling, answers, speaks, Told, told_by, telling_refusal}
-use Rattle.ra_run_laws.specs.Runs.{unless}
+use Rattle.ra_grand_runs.specs.GrandRefusals.{refusal}
+use Rattle.ra_grand_runs.specs.GrandRuns.{after}
+use Rattle.ra_grand_runs.specs.GrandSweeps.{left_by}
+use Rattle.ra_grand_runs.specs.Grands.{Grand}
+use Rattle.ra_grand_runs.specs.Marks.{Mark, Entry}
+use Rattle.ra_grand_runs.specs.Works.{Telling, answers, speaks, Told, told_by, telling_refusal}
+use Rattle.ra_grand_laws.specs.Outcomes.{unless}
 
 -- all packets but Initialize, which a session says when it has heard the context
 abbrev pub without_initialize : List Message → List Message

@@ -1,5 +1,5 @@
 use Rattle.std.proofs.Common.{◌-◌, ◌^◌}
-use Rattle.ra_grand.specs.Grands.{Grand}
+use Rattle.ra_grand_runs.specs.Grands.{Grand}
 use Rattle.ra_grand.specs.GrandStates.{StandsForGrand}
 use Rattle.ra_commands.proofs.GrandRunning.{IsDraining}
 use Rattle.ra_commands.proofs.grand.drain.Given as goal

@@ -1,7 +1,7 @@
 use Rattle.ra_grand_laws.proofs.Reaching.{reached, honest, attached, seated}
 use Rattle.ra_grand_laws.proofs.laws.links.Goals as goal
-use Rattle.ra_grand.specs.GrandRuns.{run}
-use Rattle.ra_grand.specs.Grands.{new_grand}
+use Rattle.ra_grand_runs.specs.GrandRuns.{run}
+use Rattle.ra_grand_runs.specs.Grands.{new_grand}
 
 pub returns : goal.returns
 returns c = record {

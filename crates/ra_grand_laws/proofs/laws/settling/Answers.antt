@@ -1,5 +1,5 @@
-use Rattle.ra_grand.specs.GrandRuns.{run}
-use Rattle.ra_grand.specs.Grands.{new_grand}
+use Rattle.ra_grand_runs.specs.GrandRuns.{run}
+use Rattle.ra_grand_runs.specs.Grands.{new_grand}
 use Rattle.ra_grand_laws.specs.Outcomes.{settled, fired}
 use Rattle.ra_grand_laws.proofs.Reached.{channels_reached, no_tunnel}
 use Rattle.ra_grand_laws.proofs.Reaching.{reached}

@@ -1,12 +1,12 @@
 use Rattle.std.proofs.Common.{◌≡◌, arith, ap, ◌∙◌, rules, w32, to_z, of_z}
 use Rattle.std.proofs.lemmas.Int.{to_z-of_z, ints}
 use Rattle.ra_ipc.specs.View.{id_of}
-use Rattle.ra_grand.specs.GrandEffects.{issued}
+use Rattle.ra_grand_runs.specs.GrandEffects.{issued}
 use Rattle.std.specs.Prelude.{ℤ}
 use Rattle.ra_values.specs.View.{tree}
 use Rattle.ra_session.specs.SessionCalls as calls
 use Rattle.ra_session.specs.SessionRefusals as sessions
-use Rattle.ra_grand.specs.GrandRefusals.{if_session}
+use Rattle.ra_grand_runs.specs.GrandRefusals.{if_session}
 use Rattle.ra_grand.proofs.WorldSteps.{asked_one, not_asked_one, no_client_for, issued_one}
 use Rattle.ra_grand.proofs.world.GrandWorld.call.Goals as goal
 

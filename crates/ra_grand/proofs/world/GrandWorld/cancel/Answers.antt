@@ -2,10 +2,10 @@ use Rattle.std.proofs.Common.{arith, ap, w32}
 use Rattle.std.proofs.lemmas.Int.{to_z-of_z}
 use Rattle.ra_ipc.specs.View.{id_of}
 use Rattle.ra_session.specs.declared.values.Outcome.{Outcome}
-use Rattle.ra_grand.specs.GrandEffects.{outcome}
+use Rattle.ra_grand_runs.specs.GrandEffects.{outcome}
 use Rattle.ra_session.specs.SessionCalls as calls
 use Rattle.ra_session.specs.SessionRefusals as sessions
-use Rattle.ra_grand.specs.GrandRefusals.{if_session}
+use Rattle.ra_grand_runs.specs.GrandRefusals.{if_session}
 use Rattle.ra_grand.proofs.WorldSteps.{asked_one, not_asked_one, no_client_for}
 use Rattle.ra_grand.proofs.world.GrandWorld.cancel.Goals as goal
 

@@ -1,7 +1,7 @@
 use Rattle.std.proofs.Common.{ℕ, None, Some, refl, sym, subst}
 use Rattle.ra_link_core.specs.Makes.{outcome_of}
-use Rattle.ra_grand.specs.Pieces.{LeavesAt}
-use Rattle.ra_grand.proofs.PieceSteps.{ends_so}
+use Rattle.ra_grand_server.specs.Pieces.{LeavesAt}
+use Rattle.ra_grand_server.proofs.PieceSteps.{ends_so}
 use Rattle.ra_grand.proofs.ReceiveSteps.{delivers_goes, delivers_ends}
 use Rattle.ra_grand.proofs.world.GrandWorld.deliver.Goals as goal
 

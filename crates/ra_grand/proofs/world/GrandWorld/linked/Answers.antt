@@ -1,6 +1,6 @@
 use Rattle.std.proofs.Common.{◌<◌, length, ap, arith}
-use Rattle.ra_grand.specs.GrandEffects.{made}
-use Rattle.ra_grand.specs.GrandRefusals.{if_not_dialling}
+use Rattle.ra_grand_runs.specs.GrandEffects.{made}
+use Rattle.ra_grand_runs.specs.GrandRefusals.{if_not_dialling}
 use Rattle.ra_grand.proofs.LinkingSteps.{waits, waits_not, calls_at}
 use Rattle.ra_grand.proofs.WorldSteps.{no_client_for}
 use Rattle.ra_grand.proofs.world.GrandWorld.linked.Goals as goal

@@ -1,6 +1,6 @@
 use Rattle.std.proofs.Common.{◌<◌, length, arith}
 use Rattle.ra_dial.specs.declared.values.DialEvent.TheVariants as events
-use Rattle.ra_grand.specs.GrandRefusals.{if_not_dialling}
+use Rattle.ra_grand_runs.specs.GrandRefusals.{if_not_dialling}
 use Rattle.ra_grand.proofs.LinkingSteps.{waits, waits_not}
 use Rattle.ra_grand.proofs.WorldSteps.{dials_one, no_client_for}
 use Rattle.ra_grand.proofs.world.GrandWorld.no_link.Goals as goal

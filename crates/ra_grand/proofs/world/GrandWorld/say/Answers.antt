@@ -1,7 +1,7 @@
 use Rattle.std.proofs.Common.{arith, refl}
 use Rattle.ra_session.specs.SessionCalls as calls
 use Rattle.ra_session.specs.SessionRefusals as sessions
-use Rattle.ra_grand.specs.GrandRefusals.{if_session}
+use Rattle.ra_grand_runs.specs.GrandRefusals.{if_session}
 use Rattle.ra_grand.proofs.WorldSteps.{asked_one, not_asked_one, no_client_for}
 use Rattle.ra_grand.proofs.world.GrandWorld.say.Goals as goal
 

@@ -1,7 +1,0 @@
-use Rattle.ra_grand.proofs.CrowdLemmas.{asks_in}
-use Rattle.ra_grand.proofs.clients.Clients.say.Goals as goal
-
-pub returns : goal.returns
-returns c =
-    let asks = rw c.index_mut.ensures.value at c.say.ensures in
-    rw (← c.self.view_is) (asks_in c.say.result _ _ _ _ _ _ asks)

@@ -1,5 +1,0 @@
-use Rattle.ra_grand.proofs.RunLaws.{keys_differ}
-use Rattle.ra_grand.proofs.laws.keys_differ.Goals as goal
-
-pub returns : goal.returns
-returns c = keys_differ

@@ -1,5 +1,0 @@
-use Rattle.ra_grand.proofs.LinkingSteps.{seats_front}
-use Rattle.ra_grand.proofs.server.Server.keep_links.Goals as goal
-
-pub invariant_of-self : goal.invariant_of-self
-invariant_of-self c = seats_front c.self.inside.hub c.args.n c.self.inside.links.items c.truncate.new.self.items c.truncate.ensures.items c.self.invariant

@@ -1,0 +1,13 @@
+pub mod AnswerReading
+pub mod AskSteps
+pub mod ClientLinks
+pub mod CrowdLemmas
+pub mod DialSteps
+pub mod ExchangeLemmas
+pub mod Flushing
+pub mod Holders
+pub mod LinkCounts
+pub mod LinkMaking
+pub mod LinkTurnLemmas
+pub mod SetUpLemmas
+pub mod TakingDown

@@ -1,0 +1,3 @@
+pub mod ClientLinks
+pub mod ClientStates
+pub mod Crowds

@@ -1,0 +1,17 @@
+pub mod Draws
+pub mod Fits
+pub mod GrandClients
+pub mod GrandEffects
+pub mod GrandRefusals
+pub mod GrandRuns
+pub mod GrandSweeps
+pub mod GrandViews
+pub mod Grands
+pub mod Lasting
+pub mod Lasts
+pub mod Marks
+pub mod Owners
+pub mod Reached
+pub mod ServedLinks
+pub mod SetUps
+pub mod Works

@@ -1,0 +1,14 @@
+pub mod EndSteps
+pub mod Expiring
+pub mod FreeLinks
+pub mod NewEnds
+pub mod OrderedKeys
+pub mod PieceSteps
+pub mod PlaceLemmas
+pub mod Regrounding
+pub mod SeatCounts
+pub mod SeatsAdded
+pub mod ServerSteps
+pub mod SweepSteps
+pub mod TellSteps
+pub mod WorkSteps

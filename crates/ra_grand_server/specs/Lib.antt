@@ -1,0 +1,4 @@
+pub mod Pieces
+pub mod ServerCalls
+pub mod ServerStates
+pub mod Tellings
