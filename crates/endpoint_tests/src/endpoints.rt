@@ -1,6 +1,9 @@
+//! Tests of ra_proto: what an endpoint says, hears, asks for and writes, over one link and over the next one.
+
+use crate::bodies::{LONG, long_body};
 use ra_base::{Message, Moment};
 use ra_model::Frame;
-use ra_proto::*;
+use ra_proto::{Coming, EndFault, Endpoint, NextMessage, Phase, Up};
 use std::alloc::Global;
 use std::test::Fail;
 
@@ -261,5 +264,34 @@ fn says_all(rt: HostRuntime) -> Result<(), Fail> {
     says_two(rt.alloc(), &mut endpoint)?;
     assert_eq!(rt; waiting(&endpoint), (2, 0));
     assert!(rt; writes(&mut endpoint, &letter(1, 0, 0x61), &letter(2, 0, 0x62)));
+    Ok(())
+}
+
+/// All that an endpoint shows is fed to its peer in pieces: how many bytes.
+fn passes(endpoint: &mut Endpoint, peer: &mut Endpoint) -> Result<usize, Fail> {
+    let out = endpoint.take_out();
+    for piece in out.as_slice().chunks(65_536) {
+        peer.feed(1, piece, at(0)?)?;
+    }
+    Ok(out.len())
+}
+
+/// The next frame hands up message 1 with this body.
+fn hears_whole(endpoint: &mut Endpoint, body: &[u8]) -> Result<bool, Fail> {
+    let Some(Up::Message { id: 1, body: heard }) = endpoint.next(at(0)?)? else {
+        return Ok(false);
+    };
+    Ok(heard.as_slice() == body)
+}
+
+/// A message of 2 MiB comes whole.
+#[test]
+fn a_long_message_comes_whole(rt: HostRuntime) -> Result<(), Fail> {
+    let body = long_body(rt.alloc())?;
+    let mut endpoint = up(rt.alloc())?;
+    let mut peer = up(rt.alloc())?;
+    assert_eq!(rt; say(rt.alloc(), &mut endpoint, &body)?, 1);
+    assert_eq!(rt; passes(&mut endpoint, &mut peer)?, 13 + LONG as usize);
+    assert!(rt; hears_whole(&mut peer, &body)?);
     Ok(())
 }

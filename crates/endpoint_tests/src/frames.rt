@@ -1,9 +1,10 @@
 //! Tests of ra_frame: how frames are written, and how they are read from pieces, copied and skipped.
 ghost use Rattle.std.specs.Prelude.{◌<◌};
 
+use crate::bodies::{LONG, long_body};
 use ra_base::{Message, NoMemory};
 use ra_frame::{Frame, FrameFault, FrameReader, append, append_written, header, header_wide};
-use std::alloc::{AllocError, Global};
+use std::alloc::Global;
 use std::test::Fail;
 
 const HI: [u8; 15] = [1, 0, 0, 0, 1, 0, 0, 0, 0, 0, 0, 0, 2, 104, 105];
@@ -201,20 +202,10 @@ fn a_piece_is_taken_back(rt: HostRuntime) -> Result<(), Fail> {
     Ok(())
 }
 
-/// A body of 2 MiB, of which bytes that are next to each other differ.
-fn long_body(alloc: Global) -> Result<Vec<u8>, AllocError> {
-    let mut body = Vec::new(alloc);
-    body.reserve(2_097_152)?;
-    for at in 0..2_097_152u32 {
-        body.push((at % 251) as u8)?;
-    }
-    Ok(body)
-}
-
 /// A message with this body.
 fn framed(alloc: Global, body: &[u8]) -> Result<Vec<u8>, NoMemory> {
     let mut bytes = Vec::new(alloc);
-    if body.len() > 2_097_152 {
+    if body.len() > LONG as usize {
         return Err(NoMemory);
     }
     append_written(&mut bytes, 1, 1, 0, body)?;

@@ -1,3 +1,5 @@
+//! Tests of ra_world: two endpoints, the links between them, and what each event does.
+
 use ra_base::{Count, Event, Message, Side};
 use ra_model::{EndFault, Up};
 use ra_world::{Effect, EventFault, World, run_world};
