@@ -73,6 +73,13 @@ fn server_says(
     }
 }
 
+fn asked(step: ShakeStep) -> Option<Request> {
+    if let ShakeStep::Ask { request } = step {
+        return Some(request);
+    }
+    None
+}
+
 /// What the server asks on the second message of the client.
 fn server_asks(
     alloc: Global,
@@ -82,10 +89,7 @@ fn server_asks(
     if server.is_over() {
         return Ok(None);
     }
-    match server.on_control(alloc, signer, CONNECTION)? {
-        ShakeStep::Ask { request } => Ok(Some(request)),
-        _ => Ok(None),
-    }
+    Ok(asked(server.on_control(alloc, signer, CONNECTION)?))
 }
 
 #[test]
