@@ -1,6 +1,9 @@
+//! Tests of ra_proto: what an endpoint says, hears, asks for and writes, over one link and over the next one.
+
+use crate::bodies::{LONG, long_body};
 use ra_base::{Message, Moment};
 use ra_model::Frame;
-use ra_proto::*;
+use ra_proto::{Coming, EndFault, Endpoint, NextMessage, Phase, Up};
 use std::alloc::Global;
 use std::test::Fail;
 
@@ -121,15 +124,29 @@ fn hears_and_ends(endpoint: &mut Endpoint) -> Result<bool, Fail> {
     Ok(heard)
 }
 
+/// An endpoint that has said two messages.
+fn up_with_two(alloc: Global) -> Result<Endpoint, Fail> {
+    let mut endpoint = up(alloc)?;
+    say(alloc, &mut endpoint, b"a")?;
+    say(alloc, &mut endpoint, b"b")?;
+    Ok(endpoint)
+}
+
+/// An Ack frame comes, and hands nothing up: what then waits.
+fn waiting_after_ack(endpoint: &mut Endpoint, ack: u8) -> Result<Option<(usize, u64)>, Fail> {
+    if hear_quiet(endpoint, &bare(3, ack), 0)? {
+        Ok(Some(waiting(endpoint)))
+    } else {
+        Ok(None)
+    }
+}
+
 /// An ack that is beyond the last id counts as the last id.
 #[test]
 fn ack_beyond_the_last_id(rt: HostRuntime) -> Result<(), Fail> {
-    let mut endpoint = up(rt.alloc())?;
-    say(rt.alloc(), &mut endpoint, b"a")?;
-    say(rt.alloc(), &mut endpoint, b"b")?;
+    let mut endpoint = up_with_two(rt.alloc())?;
     assert_eq!(rt; waiting(&endpoint), (2, 0));
-    assert!(rt; hear_quiet(&mut endpoint, &bare(3, 9), 0)?);
-    assert_eq!(rt; waiting(&endpoint), (0, 2));
+    assert_eq!(rt; waiting_after_ack(&mut endpoint, 9)?, Some((0, 2)));
     assert_eq!(rt; say(rt.alloc(), &mut endpoint, b"c")?, 3);
     assert_eq!(rt; waiting(&endpoint), (1, 2));
     Ok(())
@@ -159,36 +176,58 @@ fn asks_and_leaves(rt: HostRuntime) -> Result<(), Fail> {
     Ok(())
 }
 
+/// A frame of this type comes and hands nothing up, and then these bytes are shown.
+fn answers_bare(
+    endpoint: &mut Endpoint,
+    kind: u8,
+    first: &[u8],
+    last: &[u8],
+) -> Result<bool, Fail> {
+    Ok(hear_quiet(endpoint, &bare(kind, 0), 0)? && writes(endpoint, first, last))
+}
+
+/// A message is said and not shown.
+fn says_unshown(alloc: Global, endpoint: &mut Endpoint) -> Result<bool, Fail> {
+    say(alloc, endpoint, b"c")?;
+    Ok(writes(endpoint, &[], &[]))
+}
+
 /// A replay request, a pause and a resume come.
 #[test]
 fn replay_and_pause(rt: HostRuntime) -> Result<(), Fail> {
-    let mut endpoint = up(rt.alloc())?;
-    say(rt.alloc(), &mut endpoint, b"a")?;
-    say(rt.alloc(), &mut endpoint, b"b")?;
-    assert!(rt; writes(&mut endpoint, &letter(1, 0, 0x61), &letter(2, 0, 0x62)));
-    assert!(rt; hear_quiet(&mut endpoint, &bare(6, 0), 0)?);
-    assert!(rt; writes(&mut endpoint, &letter(1, 0, 0x61), &letter(2, 0, 0x62)));
-    assert!(rt; hear_quiet(&mut endpoint, &bare(7, 0), 0)?);
-    say(rt.alloc(), &mut endpoint, b"c")?;
-    assert!(rt; writes(&mut endpoint, &[], &[]));
-    assert!(rt; hear_quiet(&mut endpoint, &bare(8, 0), 0)?);
-    assert!(rt; writes(&mut endpoint, &letter(3, 0, 0x63), &[]));
+    let (a, b, c) = (letter(1, 0, 0x61), letter(2, 0, 0x62), letter(3, 0, 0x63));
+    let mut endpoint = up_with_two(rt.alloc())?;
+    assert!(rt; writes(&mut endpoint, &a, &b));
+    assert!(rt; answers_bare(&mut endpoint, 6, &a, &b)?);
+    assert!(rt; answers_bare(&mut endpoint, 7, &[], &[])?);
+    assert!(rt; says_unshown(rt.alloc(), &mut endpoint)?);
+    assert!(rt; answers_bare(&mut endpoint, 8, &c, &[])?);
     Ok(())
+}
+
+/// A copy of an endpoint with messages 1 to 4 behind it, which has said message 5 on link 1.
+fn copy_with_one(alloc: Global) -> Result<Endpoint, Fail> {
+    let mut endpoint = Endpoint::from_base(alloc, at(0)?, true, 4);
+    endpoint.begin_link(1, &[], at(0)?)?;
+    say(alloc, &mut endpoint, b"a")?;
+    Ok(endpoint.copy(alloc)?)
+}
+
+/// The peer has been silent for 20 s at this moment, and not before.
+fn times_out_at(endpoint: &mut Endpoint, millis: u64) -> Result<bool, Fail> {
+    Ok(!times_out(endpoint, millis.saturating_sub(1))? && times_out(endpoint, millis)?)
 }
 
 /// The next link brings a message again that was said on the one before. The peer is then silent for 20 s.
 #[test]
 fn reconnects(rt: HostRuntime) -> Result<(), Fail> {
-    let mut first = Endpoint::from_base(rt.alloc(), at(0)?, true, 4);
-    first.begin_link(1, &[], at(0)?)?;
-    say(rt.alloc(), &mut first, b"a")?;
-    let mut copy = first.copy(rt.alloc())?;
+    let mut copy = copy_with_one(rt.alloc())?;
     assert!(rt; begins_again(&mut copy, &letter(5, 0, 0x78))?);
-    assert!(rt; is_joining(&copy, 2) && hears_and_ends(&mut copy)?);
+    assert!(rt; is_joining(&copy, 2));
+    assert!(rt; hears_and_ends(&mut copy)?);
     assert!(rt; writes(&mut copy, &bare(3, 5), &letter(5, 4, 0x61)));
     assert!(rt; applies_control(rt.alloc(), &mut copy)?);
-    assert!(rt; !times_out(&mut copy, 20_009)?);
-    assert!(rt; times_out(&mut copy, 20_010)?);
+    assert!(rt; times_out_at(&mut copy, 20_010)?);
     Ok(())
 }
 
@@ -228,15 +267,38 @@ fn says_two(alloc: Global, endpoint: &mut Endpoint) -> Result<(), Fail> {
     Ok(endpoint.say_all(bodies, at(0)?)?)
 }
 
+fn comes_nothing(endpoint: &Endpoint) -> Result<bool, Fail> {
+    Ok(matches!(endpoint.peek()?, Coming::Nothing))
+}
+
+fn comes_another(endpoint: &Endpoint) -> Result<bool, Fail> {
+    Ok(matches!(endpoint.peek()?, Coming::Other))
+}
+
+/// A message comes in two pieces, and between them one that is taken back.
+fn feeds_around(endpoint: &mut Endpoint) -> Result<(), Fail> {
+    let bytes = letter(1, 0, 0x61);
+    endpoint.feed(1, &bytes[..5], at(0)?)?;
+    feeds_in_vain(endpoint, b"lost")?;
+    endpoint.feed(1, &bytes[5..], at(0)?)?;
+    Ok(())
+}
+
 /// A piece that is taken back does not come before the next one.
 #[test]
 fn takes_a_piece_back(rt: HostRuntime) -> Result<(), Fail> {
     let mut endpoint = up(rt.alloc())?;
-    endpoint.feed(1, &letter(1, 0, 0x61)[..5], at(0)?)?;
-    feeds_in_vain(&mut endpoint, b"lost")?;
-    endpoint.feed(1, &letter(1, 0, 0x61)[5..], at(0)?)?;
+    feeds_around(&mut endpoint)?;
     assert_eq!(rt; sees_and_takes(&mut endpoint)?, Some(1));
-    assert_eq!(rt; endpoint.peek()?, Coming::Nothing);
+    assert!(rt; comes_nothing(&endpoint)?);
+    Ok(())
+}
+
+/// Two messages and an Ack come.
+fn feeds_three(endpoint: &mut Endpoint) -> Result<(), Fail> {
+    endpoint.feed(1, &letter(1, 0, 0x61), at(0)?)?;
+    endpoint.feed(1, &letter(2, 0, 0x62), at(0)?)?;
+    endpoint.feed(1, &bare(3, 0), at(0)?)?;
     Ok(())
 }
 
@@ -244,12 +306,10 @@ fn takes_a_piece_back(rt: HostRuntime) -> Result<(), Fail> {
 #[test]
 fn sees_what_comes(rt: HostRuntime) -> Result<(), Fail> {
     let mut endpoint = up(rt.alloc())?;
-    endpoint.feed(1, &letter(1, 0, 0x61), at(0)?)?;
-    endpoint.feed(1, &letter(2, 0, 0x62), at(0)?)?;
-    endpoint.feed(1, &bare(3, 0), at(0)?)?;
+    feeds_three(&mut endpoint)?;
     assert_eq!(rt; sees_and_takes(&mut endpoint)?, Some(1));
     assert!(rt; answers(rt.alloc(), &mut endpoint)?);
-    assert_eq!(rt; endpoint.peek()?, Coming::Other);
+    assert!(rt; comes_another(&endpoint)?);
     assert!(rt; writes(&mut endpoint, &letter(1, 2, 0x62), &[]));
     Ok(())
 }
@@ -261,5 +321,44 @@ fn says_all(rt: HostRuntime) -> Result<(), Fail> {
     says_two(rt.alloc(), &mut endpoint)?;
     assert_eq!(rt; waiting(&endpoint), (2, 0));
     assert!(rt; writes(&mut endpoint, &letter(1, 0, 0x61), &letter(2, 0, 0x62)));
+    Ok(())
+}
+
+/// What an endpoint shows that says this message.
+fn shown_of(alloc: Global, body: &[u8]) -> Result<Message, Fail> {
+    let mut endpoint = up(alloc)?;
+    say(alloc, &mut endpoint, body)?;
+    Ok(endpoint.take_out())
+}
+
+fn feed_in_pieces(endpoint: &mut Endpoint, bytes: &[u8]) -> Result<(), Fail> {
+    for piece in bytes.chunks(65_536) {
+        endpoint.feed(1, piece, at(0)?)?;
+    }
+    Ok(())
+}
+
+/// The next frame hands up message 1 with this body.
+fn hears_whole(endpoint: &mut Endpoint, body: &[u8]) -> Result<bool, Fail> {
+    let Some(Up::Message { id: 1, body: heard }) = endpoint.next(at(0)?)? else {
+        return Ok(false);
+    };
+    Ok(heard.as_slice() == body)
+}
+
+/// An endpoint that is fed these bytes in pieces hears this message.
+fn takes_whole(alloc: Global, bytes: &[u8], body: &[u8]) -> Result<bool, Fail> {
+    let mut endpoint = up(alloc)?;
+    feed_in_pieces(&mut endpoint, bytes)?;
+    hears_whole(&mut endpoint, body)
+}
+
+/// A message of 2 MiB comes whole.
+#[test]
+fn a_long_message_comes_whole(rt: HostRuntime) -> Result<(), Fail> {
+    let body = long_body(rt.alloc())?;
+    let shown = shown_of(rt.alloc(), &body)?;
+    assert_eq!(rt; shown.len(), 13 + LONG as usize);
+    assert!(rt; takes_whole(rt.alloc(), shown.as_slice(), &body)?);
     Ok(())
 }

@@ -1,3 +1,5 @@
+//! Tests of ra_script: scripts of clients and a server are read, and the first fault in a script is named.
+
 use ra_base::{Count, Kind};
 use ra_script::{GrandEvent, GrandLine, ScriptFault, What, parse_grand};
 use std::alloc::Global;

@@ -4,6 +4,8 @@
 #[cfg(test)]
 mod alarms;
 #[cfg(test)]
+mod bodies;
+#[cfg(test)]
 mod endpoints;
 #[cfg(test)]
 mod frames;

@@ -1,3 +1,5 @@
+//! Tests of ra_ports: what a link and a clock in memory give at each call.
+
 use ra_base::{Message, Moment};
 use ra_ports::{Clock, Got, Link, LinkStep, MemClock, MemLink, send_all};
 use std::alloc::Global;
@@ -26,17 +28,31 @@ fn one_step(alloc: Global, bytes: &[u8]) -> Result<Vec<LinkStep>, Fail> {
     Ok(steps)
 }
 
-/// A link that gives these steps, and `xy` once it is framed.
+/// A link that gives the steps `before`, and the steps `after` once it is framed.
 fn link_of(
     rt: &impl Abort,
     alloc: Global,
     before: Vec<LinkStep>,
+    after: Vec<LinkStep>,
     failing: Vec<u64>,
-) -> Result<MemLink, Fail> {
-    let after = one_step(alloc, b"xy")?;
+) -> MemLink {
     assert!(rt; before.iter().all(|step| step.is_filled()));
     assert!(rt; after.iter().all(|step| step.is_filled()));
-    Ok(MemLink::new(alloc, before, after, failing))
+    MemLink::new(alloc, before, after, failing)
+}
+
+/// A link of four steps, which gives `xy` once it is framed.
+fn link_of_four(rt: &impl Abort, alloc: Global) -> Result<MemLink, Fail> {
+    let before = four_steps(alloc)?;
+    let after = one_step(alloc, b"xy")?;
+    Ok(link_of(rt, alloc, before, after, Vec::new(alloc)))
+}
+
+/// A link that gives `a`, and whose calls 2 and 3 fail.
+fn failing_link(rt: &impl Abort, alloc: Global) -> Result<MemLink, Fail> {
+    let before = one_step(alloc, b"a")?;
+    let failing = Vec::from_array(alloc, [2u64, 3])?;
+    Ok(link_of(rt, alloc, before, Vec::new(alloc), failing))
 }
 
 /// What one call gives, with room for two bytes: the bytes, or `idle`, `end` or `fault`.
@@ -49,35 +65,40 @@ fn received<'a, L: Link>(link: &mut L, into: &'a mut [u8; 2]) -> &'a [u8] {
     }
 }
 
+/// The next call gives these bytes.
+fn gives<L: Link>(link: &mut L, bytes: &[u8]) -> bool {
+    let mut into = [0u8; 2];
+    received(link, &mut into) == bytes
+}
+
+fn sends<L: Link>(link: &mut L, bytes: &[u8]) -> bool {
+    send_all(link, bytes).is_ok()
+}
+
+fn becomes_framed<L: Link>(link: &mut L) -> bool {
+    link.go_framed(b"").is_ok()
+}
+
+/// What the calls of a link of four steps give.
+const GIVEN: [&[u8]; 7] = [b"ab", b"c", b"idle", b"fault", b"d", b"end", b"end"];
+
 #[test]
 fn a_link_in_memory_gives_its_steps(rt: HostRuntime) -> Result<(), Fail> {
-    let mut link = link_of(
-        &rt,
-        rt.alloc(),
-        four_steps(rt.alloc())?,
-        Vec::new(rt.alloc()),
-    )?;
-    let mut into = [0u8; 2];
-    assert_eq!(rt; received(&mut link, &mut into), b"ab".as_slice());
-    assert_eq!(rt; received(&mut link, &mut into), b"c".as_slice());
-    assert_eq!(rt; received(&mut link, &mut into), b"idle".as_slice());
-    assert_eq!(rt; received(&mut link, &mut into), b"fault".as_slice());
-    assert_eq!(rt; received(&mut link, &mut into), b"d".as_slice());
-    assert_eq!(rt; received(&mut link, &mut into), b"end".as_slice());
-    assert_eq!(rt; received(&mut link, &mut into), b"end".as_slice());
+    let mut link = link_of_four(&rt, rt.alloc())?;
+    for bytes in GIVEN {
+        assert!(rt; gives(&mut link, bytes), "{bytes:?}");
+    }
     Ok(())
 }
 
 #[test]
 fn listed_calls_of_a_link_in_memory_fail(rt: HostRuntime) -> Result<(), Fail> {
-    let failing = Vec::from_array(rt.alloc(), [2u64, 3])?;
-    let mut link = link_of(&rt, rt.alloc(), one_step(rt.alloc(), b"a")?, failing)?;
-    let mut into = [0u8; 2];
-    assert!(rt; send_all(&mut link, b"go").is_ok());
-    assert!(rt; send_all(&mut link, b"no").is_err());
-    assert_eq!(rt; received(&mut link, &mut into), b"fault".as_slice());
-    assert_eq!(rt; received(&mut link, &mut into), b"a".as_slice());
-    assert!(rt; send_all(&mut link, b"on").is_ok());
+    let mut link = failing_link(&rt, rt.alloc())?;
+    assert!(rt; sends(&mut link, b"go"));
+    assert!(rt; !sends(&mut link, b"no"));
+    assert!(rt; gives(&mut link, b"fault"));
+    assert!(rt; gives(&mut link, b"a"));
+    assert!(rt; sends(&mut link, b"on"));
     assert_eq!(rt; link.sent(), b"goon".as_slice());
     assert_eq!(rt; link.short(), 0);
     Ok(())
@@ -85,20 +106,22 @@ fn listed_calls_of_a_link_in_memory_fail(rt: HostRuntime) -> Result<(), Fail> {
 
 #[test]
 fn a_framed_link_in_memory_gives_its_other_steps(rt: HostRuntime) -> Result<(), Fail> {
-    let mut link = link_of(
-        &rt,
-        rt.alloc(),
-        four_steps(rt.alloc())?,
-        Vec::new(rt.alloc()),
-    )?;
-    let mut into = [0u8; 2];
-    assert_eq!(rt; received(&mut link, &mut into), b"ab".as_slice());
-    assert!(rt; link.go_framed(b"").is_ok());
-    assert_eq!(rt; received(&mut link, &mut into), b"xy".as_slice());
-    assert_eq!(rt; received(&mut link, &mut into), b"end".as_slice());
-    assert!(rt; link.go_framed(b"").is_ok());
-    assert_eq!(rt; received(&mut link, &mut into), b"end".as_slice());
+    let mut link = link_of_four(&rt, rt.alloc())?;
+    assert!(rt; gives(&mut link, b"ab"));
+    assert!(rt; becomes_framed(&mut link));
+    assert!(rt; gives(&mut link, b"xy"));
+    assert!(rt; gives(&mut link, b"end"));
+    assert!(rt; becomes_framed(&mut link));
+    assert!(rt; gives(&mut link, b"end"));
     Ok(())
+}
+
+/// A clock of 0 ms and 5 ms.
+fn clock_of_two(rt: &impl Abort, alloc: Global) -> Result<MemClock, Fail> {
+    let later = Moment::of_millis(5).ok_or("no moment")?;
+    let moments = Vec::from_array(alloc, [Moment::start(), later])?;
+    assert!(rt; !moments.is_empty());
+    Ok(MemClock::new(moments))
 }
 
 /// The next moment, in milliseconds.
@@ -107,16 +130,17 @@ fn millis<C: Clock>(clock: &mut C) -> u64 {
     clock.now().millis()
 }
 
+fn millis_of_copy(clock: &MemClock) -> Result<u64, Fail> {
+    let mut copy = clock.clone()?;
+    Ok(millis(&mut copy))
+}
+
 #[test]
 fn the_last_moment_in_memory_is_repeated(rt: HostRuntime) -> Result<(), Fail> {
-    let later = Moment::of_millis(5).ok_or("no moment")?;
-    let moments = Vec::from_array(rt.alloc(), [Moment::start(), later])?;
-    assert!(rt; !moments.is_empty());
-    let mut clock = MemClock::new(moments);
-    let mut other = clock.clone()?;
-    assert_eq!(rt; millis(&mut other), 0);
-    assert_eq!(rt; millis(&mut clock), 0);
-    assert_eq!(rt; millis(&mut clock), 5);
-    assert_eq!(rt; millis(&mut clock), 5);
+    let mut clock = clock_of_two(&rt, rt.alloc())?;
+    assert_eq!(rt; millis_of_copy(&clock)?, 0);
+    for expected in [0, 5, 5] {
+        assert_eq!(rt; millis(&mut clock), expected);
+    }
     Ok(())
 }

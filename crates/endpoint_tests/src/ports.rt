@@ -1,3 +1,5 @@
+//! Tests of ra_ports: sources, sinks and entropy in memory, and the adapters of readers and writers.
+
 use ra_base::Message;
 use ra_ports::{
     Entropy, MemEntropy, MemSink, MemSource, Sink, Source, StdSink, StdSource, write_all,

@@ -1,5 +1,7 @@
+//! Tests of ra_queue: ids and the messages that wait for an ack.
+
 use ra_base::Message;
-use ra_queue::*;
+use ra_queue::{Entry, Ids, Unacked};
 use std::alloc::Global;
 use std::test::Fail;
 
@@ -24,29 +26,54 @@ fn ids(rt: HostRuntime) {
     assert_eq!(rt; ids.take(), None);
 }
 
-/// Ids 1 to 3 wait, and an ack of 2 leaves the third.
-#[test]
-fn front(rt: HostRuntime) -> Result<(), Fail> {
-    let mut queue = Unacked::new(rt.alloc());
-    assert!(rt; queue.is_empty());
+/// A queue in which ids 1 to 3 wait.
+fn three_waiting(alloc: Global) -> Result<Unacked, Fail> {
+    let mut queue = Unacked::new(alloc);
     queue.reserve(3)?;
     for id in 1..4 {
         queue.reserve(1)?;
-        queue.push(entry(rt.alloc(), id)?);
+        queue.push(entry(alloc, id)?);
     }
-    assert_eq!(rt; queue.oldest_written(), None);
+    Ok(queue)
+}
+
+/// When the oldest entry was written, before and after all are marked as written at 7.
+fn marked(queue: &mut Unacked) -> (Option<u64>, Option<u64>) {
+    let before = queue.oldest_written();
     queue.mark_written(7);
-    assert_eq!(rt; queue.oldest_written(), Some(7));
+    (before, queue.oldest_written())
+}
+
+fn id_at(queue: &Unacked, at: usize) -> Option<u64> {
+    let entry = queue.entry(at)?;
+    Some(entry.id)
+}
+
+fn len_of((first, second): (&[Entry], &[Entry])) -> usize {
+    first.len().saturating_add(second.len())
+}
+
+/// How many entries a copy has, and how many behind the first one.
+fn lens_of_copy(alloc: Global, queue: &Unacked) -> Result<(usize, usize), Fail> {
+    let copy = queue.copy(alloc)?;
+    if copy.is_empty() {
+        return Err("empty".into());
+    }
+    let all = len_of(copy.as_slices());
+    Ok((all, len_of(copy.slices_from(1))))
+}
+
+/// An ack of 2 leaves the third of three entries.
+#[test]
+fn front(rt: HostRuntime) -> Result<(), Fail> {
+    assert!(rt; Unacked::new(rt.alloc()).is_empty());
+    let mut queue = three_waiting(rt.alloc())?;
+    assert_eq!(rt; marked(&mut queue), (None, Some(7)));
     assert_eq!(rt; queue.acknowledge(2), 2);
     assert_eq!(rt; queue.acknowledge(2), 0);
     assert_eq!(rt; queue.len(), 1);
-    assert_eq!(rt; queue.entry(0).map_or(0, |entry| entry.id), 3);
-    assert!(rt; queue.entry(1).is_none());
-    let copy = queue.copy(rt.alloc())?;
-    let (first, second) = copy.as_slices();
-    assert_eq!(rt; first.len() + second.len(), 1);
-    let (first, second) = copy.slices_from(1);
-    assert_eq!(rt; first.len() + second.len(), 0);
+    assert_eq!(rt; (id_at(&queue, 0), id_at(&queue, 1)), (Some(3), None));
+    assert_eq!(rt; lens_of_copy(rt.alloc(), &queue)?, (1, 0));
     queue.truncate(0);
     assert!(rt; queue.is_empty());
     Ok(())

@@ -1,3 +1,5 @@
+//! Tests of ra_base: messages, moments, tokens, keys and reasons.
+
 use ra_base::{Key, Kind, Message, Moment, Reason, Token, TokenFault};
 use std::test::Fail;
 
@@ -22,29 +24,37 @@ fn a_moment_is_below_its_limit(rt: HostRuntime) {
 
 #[test]
 fn a_token_is_visible_text(rt: HostRuntime) -> Result<(), Fail> {
-    assert!(rt; matches!(Token::from_text(""), Err(TokenFault::Empty)));
+    assert_eq!(rt; Token::from_text("").err(), Some(TokenFault::Empty));
+    assert_eq!(rt;
+        Token::from_text("a b").err(),
+        Some(TokenFault::BadByte { at: 1 })
+    );
     let long = vec![in rt.alloc(); b'a'; 257]?;
     let long = str::from_utf8(long.as_slice())?;
-    assert!(rt;
-        matches!(
-            Token::from_text(long),
-            Err(TokenFault::TooLong { len: 257 })
-        )
+    assert_eq!(rt;
+        Token::from_text(long).err(),
+        Some(TokenFault::TooLong { len: 257 })
     );
-    assert!(rt; matches!(Token::from_text("a b"), Err(TokenFault::BadByte { at: 1 })));
+    Ok(())
+}
+
+#[test]
+fn keys_are_ordered_by_their_kinds(rt: HostRuntime) -> Result<(), Fail> {
     let token = Token::from_text("t1")?;
     assert_eq!(rt; token.as_text(), "t1");
-    let key = Key {
-        kind: Kind::Management,
+    let host = Key {
+        kind: Kind::ExtensionHost,
         token: token.same(),
     };
-    assert!(rt; key.same() == key);
-    assert!(rt;
-        key < Key {
-            kind: Kind::ExtensionHost,
-            token
-        }
-    );
-    assert_eq!(rt; Reason::Duplicate.text(), "Duplicate reconnection token");
+    let management = Key {
+        kind: Kind::Management,
+        token,
+    };
+    assert!(rt; management.same() == management && management < host);
     Ok(())
+}
+
+#[test]
+fn a_reason_has_its_text(rt: HostRuntime) {
+    assert_eq!(rt; Reason::Duplicate.text(), "Duplicate reconnection token");
 }

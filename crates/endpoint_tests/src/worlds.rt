@@ -1,3 +1,5 @@
+//! Tests of ra_world: two endpoints, the links between them, and what each event does.
+
 use ra_base::{Count, Event, Message, Side};
 use ra_model::{EndFault, Up};
 use ra_world::{Effect, EventFault, World, run_world};
@@ -135,114 +137,136 @@ fn is_refused(rt: &impl Abort, world: &mut World, event: Event, fault: EventFaul
     assert!(rt; found == Err(fault));
 }
 
+/// A message is said, written in these bytes, and read and heard at the other end.
+fn delivers(
+    rt: &impl Abort,
+    alloc: Global,
+    world: &mut World,
+    (from, to): (Side, Side),
+    text: &[u8],
+    bytes: &[u8],
+) -> Result<(), Fail> {
+    says(rt, alloc, world, from, text)?;
+    writes(rt, alloc, world, from, bytes)?;
+    reads(rt, world, to, 1, bytes.len() as u64)?;
+    hears(rt, alloc, world, to, text)
+}
+
+/// Two ends that are linked.
+fn linked(rt: &impl Abort, alloc: Global) -> Result<World, Fail> {
+    let mut world = World::new(alloc)?;
+    links(rt, &mut world, 1)?;
+    Ok(world)
+}
+
+const HI: &[u8] = b"\x01\0\0\0\x01\0\0\0\0\0\0\0\x02hi";
+
+const A: &[u8] = b"\x01\0\0\0\x01\0\0\0\0\0\0\0\x01a";
+
+const ANSWER: &[u8] = b"\x01\0\0\0\x01\0\0\0\x01\0\0\0\x01a";
+
 #[test]
 fn a_message_and_its_answer(rt: HostRuntime) -> Result<(), Fail> {
     let alloc = rt.alloc();
-    let mut world = World::new(alloc)?;
-    links(&rt, &mut world, 1)?;
-    says(&rt, alloc, &mut world, Side::A, b"hi")?;
-    writes(
-        &rt,
-        alloc,
-        &mut world,
-        Side::A,
-        b"\x01\0\0\0\x01\0\0\0\0\0\0\0\x02hi",
-    )?;
-    reads(&rt, &mut world, Side::B, 1, 15)?;
-    hears(&rt, alloc, &mut world, Side::B, b"hi")?;
-    says(&rt, alloc, &mut world, Side::B, b"a")?;
-    writes(
-        &rt,
-        alloc,
-        &mut world,
-        Side::B,
-        b"\x01\0\0\0\x01\0\0\0\x01\0\0\0\x01a",
-    )?;
-    reads(&rt, &mut world, Side::A, 1, 14)?;
-    hears(&rt, alloc, &mut world, Side::A, b"a")?;
+    let mut world = linked(&rt, alloc)?;
+    delivers(&rt, alloc, &mut world, (Side::A, Side::B), b"hi", HI)?;
+    delivers(&rt, alloc, &mut world, (Side::B, Side::A), b"a", ANSWER)?;
     assert_eq!(rt; world.said(Side::A).len(), world.heard(Side::A).len());
     assert_eq!(rt; world.end(Side::A).owed().len(), 0);
     assert_eq!(rt; world.links(), 1);
     Ok(())
 }
 
+/// A says a message, of which this part is written and read.
+fn says_in_part(
+    rt: &impl Abort,
+    alloc: Global,
+    world: &mut World,
+    text: &[u8],
+    part: &[u8],
+) -> Result<(), Fail> {
+    says(rt, alloc, world, Side::A, text)?;
+    writes(rt, alloc, world, Side::A, part)?;
+    reads(rt, world, Side::B, 1, part.len() as u64)
+}
+
+/// The next link joins, and brings an Ack and the message in these bytes.
+fn hears_again(
+    rt: &impl Abort,
+    alloc: Global,
+    world: &mut World,
+    text: &[u8],
+    bytes: &[u8],
+) -> Result<(), Fail> {
+    joins_again(rt, world)?;
+    writes(rt, alloc, world, Side::A, bytes)?;
+    reads(rt, world, Side::B, 2, bytes.len() as u64)?;
+    takes(rt, world, Side::B, Effect::Up { up: Up::Quiet })?;
+    hears(rt, alloc, world, Side::B, text)
+}
+
 #[test]
 fn a_link_is_cut_within_a_body(rt: HostRuntime) -> Result<(), Fail> {
-    let alloc = rt.alloc();
-    let mut world = World::new(alloc)?;
-    links(&rt, &mut world, 1)?;
-    says(&rt, alloc, &mut world, Side::A, b"hi")?;
-    writes(
-        &rt,
-        alloc,
-        &mut world,
-        Side::A,
-        b"\x01\0\0\0\x01\0\0\0\0\0\0\0\x02h",
-    )?;
-    reads(&rt, &mut world, Side::B, 1, 14)?;
-    takes(&rt, &mut world, Side::B, Effect::Nothing)?;
-    joins_again(&rt, &mut world)?;
+    let part = b"\x01\0\0\0\x01\0\0\0\0\0\0\0\x02h";
     let again = b"\x03\0\0\0\0\0\0\0\0\0\0\0\0\x01\0\0\0\x01\0\0\0\0\0\0\0\x02hi";
-    writes(&rt, alloc, &mut world, Side::A, again)?;
-    reads(&rt, &mut world, Side::B, 2, 28)?;
-    takes(&rt, &mut world, Side::B, Effect::Up { up: Up::Quiet })?;
-    hears(&rt, alloc, &mut world, Side::B, b"hi")
+    let mut world = linked(&rt, rt.alloc())?;
+    says_in_part(&rt, rt.alloc(), &mut world, b"hi", part)?;
+    takes(&rt, &mut world, Side::B, Effect::Nothing)?;
+    hears_again(&rt, rt.alloc(), &mut world, b"hi", again)
 }
 
 #[test]
 fn a_link_is_cut_within_a_header(rt: HostRuntime) -> Result<(), Fail> {
-    let alloc = rt.alloc();
-    let mut world = World::new(alloc)?;
-    links(&rt, &mut world, 1)?;
-    says(&rt, alloc, &mut world, Side::A, b"a")?;
-    writes(&rt, alloc, &mut world, Side::A, b"\x01\0\0\0\x01\0\0\0\0\0")?;
-    reads(&rt, &mut world, Side::B, 1, 10)?;
-    joins_again(&rt, &mut world)?;
+    let part = b"\x01\0\0\0\x01\0\0\0\0\0";
     let again = b"\x03\0\0\0\0\0\0\0\0\0\0\0\0\x01\0\0\0\x01\0\0\0\0\0\0\0\x01a";
-    writes(&rt, alloc, &mut world, Side::A, again)?;
-    reads(&rt, &mut world, Side::B, 2, 27)?;
-    takes(&rt, &mut world, Side::B, Effect::Up { up: Up::Quiet })?;
-    hears(&rt, alloc, &mut world, Side::B, b"a")
+    let mut world = linked(&rt, rt.alloc())?;
+    says_in_part(&rt, rt.alloc(), &mut world, b"a", part)?;
+    hears_again(&rt, rt.alloc(), &mut world, b"a", again)
+}
+
+/// At this moment B writes these bytes.
+fn writes_at(
+    rt: &impl Abort,
+    alloc: Global,
+    world: &mut World,
+    now: u64,
+    bytes: &[u8],
+) -> Result<(), Fail> {
+    ticks(rt, world, Side::B, now, false)?;
+    writes(rt, alloc, world, Side::B, bytes)
 }
 
 #[test]
 fn a_message_is_acknowledged_after_two_seconds(rt: HostRuntime) -> Result<(), Fail> {
     let alloc = rt.alloc();
-    let mut world = World::new(alloc)?;
-    links(&rt, &mut world, 1)?;
-    says(&rt, alloc, &mut world, Side::A, b"a")?;
-    writes(
-        &rt,
-        alloc,
-        &mut world,
-        Side::A,
-        b"\x01\0\0\0\x01\0\0\0\0\0\0\0\x01a",
-    )?;
-    reads(&rt, &mut world, Side::B, 1, 14)?;
-    hears(&rt, alloc, &mut world, Side::B, b"a")?;
-    ticks(&rt, &mut world, Side::B, 2004, false)?;
-    writes(&rt, alloc, &mut world, Side::B, b"")?;
-    ticks(&rt, &mut world, Side::B, 2005, false)?;
-    writes(
-        &rt,
-        alloc,
-        &mut world,
-        Side::B,
-        b"\x03\0\0\0\0\0\0\0\x01\0\0\0\0",
-    )
+    let ack = b"\x03\0\0\0\0\0\0\0\x01\0\0\0\0";
+    let mut world = linked(&rt, alloc)?;
+    delivers(&rt, alloc, &mut world, (Side::A, Side::B), b"a", A)?;
+    writes_at(&rt, alloc, &mut world, 2004, b"")?;
+    writes_at(&rt, alloc, &mut world, 2005, ack)
+}
+
+/// A world of one link, which has begun at A.
+fn begun(rt: &impl Abort, alloc: Global) -> Result<World, Fail> {
+    let Ok(mut world) = run_world(alloc, &[Event::Link]) else {
+        return Err("refused".into());
+    };
+    begins(rt, &mut world, Side::A, 1)?;
+    Ok(world)
+}
+
+/// A has not timed out at 19,999 ms, and has at the next tick after 20,000 ms, whatever its moment.
+fn times_out(rt: &impl Abort, world: &mut World) -> Result<(), Fail> {
+    ticks(rt, world, Side::A, 19_999, false)?;
+    is_done(rt, world, Event::At { now: 20_000 })?;
+    ticks(rt, world, Side::A, 5, true)
 }
 
 #[test]
 fn a_silent_peer(rt: HostRuntime) -> Result<(), Fail> {
-    let alloc = rt.alloc();
-    let Ok(mut world) = run_world(alloc, &[Event::Link]) else {
-        return Err("refused".into());
-    };
-    begins(&rt, &mut world, Side::A, 1)?;
-    says(&rt, alloc, &mut world, Side::A, b"a")?;
-    ticks(&rt, &mut world, Side::A, 19_999, false)?;
-    is_done(&rt, &mut world, Event::At { now: 20_000 })?;
-    ticks(&rt, &mut world, Side::A, 5, true)
+    let mut world = begun(&rt, rt.alloc())?;
+    says(&rt, rt.alloc(), &mut world, Side::A, b"a")?;
+    times_out(&rt, &mut world)
 }
 
 #[test]
@@ -271,57 +295,46 @@ fn events_that_are_refused(rt: HostRuntime) -> Result<(), Fail> {
     Ok(())
 }
 
-#[test]
-fn ends_that_refuse(rt: HostRuntime) -> Result<(), Fail> {
-    let alloc = rt.alloc();
+fn end_refuses(rt: &impl Abort, world: &mut World, event: Event, fault: EndFault) {
+    is_refused(rt, world, event, EventFault::End { fault });
+}
+
+/// Two linked ends that have no ids left.
+fn with_no_ids(rt: &impl Abort, alloc: Global) -> Result<World, Fail> {
     let mut world = World::from_base(alloc, u64::MAX)?;
-    links(&rt, &mut world, 1)?;
-    let (side, count) = (Side::B, Count::All);
-    let stale = EndFault::Stale { current: 1 };
+    links(rt, &mut world, 1)?;
+    Ok(world)
+}
+
+fn refuses_to_say(
+    rt: &impl Abort,
+    alloc: Global,
+    world: &mut World,
+    side: Side,
+) -> Result<(), Fail> {
     let body = Message::copy(alloc, b"a")?;
-    is_refused(
-        &rt,
-        &mut world,
-        Event::Begin {
-            side,
-            link: 1,
-            count,
-        },
-        EventFault::End { fault: stale },
-    );
-    is_refused(
-        &rt,
-        &mut world,
-        Event::Finish { side },
-        EventFault::End {
-            fault: EndFault::NotJoining,
-        },
-    );
-    is_refused(
-        &rt,
-        &mut world,
-        Event::Say { side, body },
-        EventFault::End {
-            fault: EndFault::IdsSpent,
-        },
-    );
+    end_refuses(rt, world, Event::Say { side, body }, EndFault::IdsSpent);
+    Ok(())
+}
+
+#[test]
+fn an_end_with_no_ids_refuses(rt: HostRuntime) -> Result<(), Fail> {
+    let mut world = with_no_ids(&rt, rt.alloc())?;
+    let (side, count, link) = (Side::B, Count::All, 1);
+    let begin = Event::Begin { side, link, count };
+    end_refuses(&rt, &mut world, begin, EndFault::Stale { current: 1 });
+    let finish = Event::Finish { side };
+    end_refuses(&rt, &mut world, finish, EndFault::NotJoining);
+    refuses_to_say(&rt, rt.alloc(), &mut world, side)
+}
+
+#[test]
+fn an_end_with_no_link_refuses(rt: HostRuntime) -> Result<(), Fail> {
+    let mut world = with_no_ids(&rt, rt.alloc())?;
+    let side = Side::B;
     is_done(&rt, &mut world, Event::Lose { side })?;
-    is_refused(
-        &rt,
-        &mut world,
-        Event::Pause { side },
-        EventFault::End {
-            fault: EndFault::NoLink,
-        },
-    );
+    end_refuses(&rt, &mut world, Event::Pause { side }, EndFault::NoLink);
     is_done(&rt, &mut world, Event::Leave { side })?;
-    is_refused(
-        &rt,
-        &mut world,
-        Event::Resume { side },
-        EventFault::End {
-            fault: EndFault::Ended,
-        },
-    );
+    end_refuses(&rt, &mut world, Event::Resume { side }, EndFault::Ended);
     Ok(())
 }

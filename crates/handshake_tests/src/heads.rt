@@ -1,3 +1,5 @@
+//! Tests of ra_upgrade: heads of requests and their answers, as they are read, judged and written.
+
 use ra_base::{Message, Token, TokenFault};
 use ra_upgrade::{
     AnswerFault, HeadFault, Upgrade, answer, read_answer, read_head, refusal, request,
@@ -24,9 +26,9 @@ fn head(alloc: Global, line: &str, fields: &str) -> Result<String, AllocError> {
     format!(in alloc; "{line}\r\n{fields}\r\n")
 }
 
-fn upgrade_of(alloc: Global, line: &str, fields: &str) -> Result<Upgrade, Fail> {
-    let text = head(alloc, line, fields)?;
-    let (upgrade, len) = read_head(alloc, text.as_bytes())?.ok_or("no head")?;
+/// What a head says that is all of the text.
+fn whole_head(alloc: Global, text: &[u8]) -> Result<Upgrade, Fail> {
+    let (upgrade, len) = read_head(alloc, text)?.ok_or("no head")?;
     if len == text.len() {
         Ok(upgrade)
     } else {
@@ -34,24 +36,32 @@ fn upgrade_of(alloc: Global, line: &str, fields: &str) -> Result<Upgrade, Fail> 
     }
 }
 
-fn fault_of(alloc: Global, text: &[u8]) -> Option<HeadFault> {
-    read_head(alloc, text).err()
+fn upgrade_of(alloc: Global, line: &str, fields: &str) -> Result<Upgrade, Fail> {
+    let text = head(alloc, line, fields)?;
+    whole_head(alloc, text.as_bytes())
 }
 
-fn is_token(upgrade: &Upgrade, text: &str) -> bool {
-    upgrade
-        .token
-        .as_ref()
-        .is_some_and(|token| token.as_text() == text)
+/// Whether a head is there.
+fn reads(alloc: Global, text: &[u8]) -> Result<bool, HeadFault> {
+    Ok(read_head(alloc, text)?.is_some())
+}
+
+fn has_token(upgrade: &Upgrade, text: Option<&str>) -> bool {
+    match &upgrade.token {
+        Some(token) => text == Some(token.as_text()),
+        None => text.is_none(),
+    }
+}
+
+/// The answer to the head of the line and the fields above.
+fn answered(alloc: Global) -> Result<Message, Fail> {
+    let upgrade = upgrade_of(alloc, LINE, FIELDS)?;
+    Ok(answer(alloc, &upgrade)?)
 }
 
 #[test]
-fn a_head_is_read_and_answered(rt: HostRuntime) -> Result<(), Fail> {
-    let upgrade = upgrade_of(rt.alloc(), LINE, FIELDS)?;
-    assert!(rt; is_token(&upgrade, "t1"));
-    assert!(rt; !upgrade.reconnection);
-    assert!(rt; upgrade.skip_frames);
-    let text = answer(rt.alloc(), &upgrade)?;
+fn a_head_is_answered(rt: HostRuntime) -> Result<(), Fail> {
+    let text = answered(rt.alloc())?;
     assert_eq!(rt; text.as_slice(), ACCEPTED.as_bytes());
     assert_eq!(rt;
         read_answer(rt.alloc(), KEY, text.as_slice()),
@@ -71,85 +81,109 @@ fn a_refused_head_is_answered(rt: HostRuntime) -> Result<(), Fail> {
     Ok(())
 }
 
+const GET: &str = "GET / HTTP/1.1";
+
+const EMPTY_TOKEN: &str = "GET /?reconnectionToken= HTTP/1.1";
+
+/// A line, fields and the first fault that they have.
+const JUDGED: [(&str, &str, HeadFault); 9] = [
+    (
+        "POST /?reconnectionToken= HTTP/1.1",
+        FIELDS,
+        HeadFault::NotGet,
+    ),
+    ("GET / HTTP/1.0", FIELDS, HeadFault::NotGet),
+    (
+        EMPTY_TOKEN,
+        "Sec-WebSocket-Key: k\r\n",
+        HeadFault::NoUpgrade,
+    ),
+    (
+        GET,
+        "Upgrade: h2c\r\nUpgrade: websocket\r\n",
+        HeadFault::NoUpgrade,
+    ),
+    (
+        EMPTY_TOKEN,
+        "Host: localhost\r\nUpgrade: websocket\r\nConnection: Upgrade\r\n",
+        HeadFault::NoKey,
+    ),
+    (
+        GET,
+        "Upgrade: websocket\r\nSec-WebSocket-Key:\r\nSec-WebSocket-Key: k\r\n",
+        HeadFault::NoKey,
+    ),
+    ("GET / HTTP/1.1\n", FIELDS, HeadFault::BadHead),
+    ("\r\n\r\nGET / HTTP/1.1", FIELDS, HeadFault::BadHead),
+    ("GET / HTTP/2.0", FIELDS, HeadFault::BadHead),
+];
+
+/// The fault of a head.
+fn fault_of(alloc: Global, line: &str, fields: &str) -> Result<Option<HeadFault>, AllocError> {
+    let text = head(alloc, line, fields)?;
+    Ok(reads(alloc, text.as_bytes()).err())
+}
+
 #[test]
 fn lines_and_fields_are_judged_in_order(rt: HostRuntime) -> Result<(), Fail> {
-    let get = "GET / HTTP/1.1";
-    let post = "POST /?reconnectionToken= HTTP/1.1";
-    let old = "GET / HTTP/1.0";
-    let empty_token = "GET /?reconnectionToken= HTTP/1.1";
-    let key = "Sec-WebSocket-Key: k\r\n";
-    let no_key = "Host: localhost\r\nUpgrade: websocket\r\nConnection: Upgrade\r\n";
-    let table = [
-        (post, FIELDS, HeadFault::NotGet),
-        (old, FIELDS, HeadFault::NotGet),
-        (empty_token, key, HeadFault::NoUpgrade),
-        (
-            get,
-            "Upgrade: h2c\r\nUpgrade: websocket\r\n",
-            HeadFault::NoUpgrade,
-        ),
-        (empty_token, no_key, HeadFault::NoKey),
-        (
-            get,
-            "Upgrade: websocket\r\nSec-WebSocket-Key:\r\nSec-WebSocket-Key: k\r\n",
-            HeadFault::NoKey,
-        ),
-        ("GET / HTTP/1.1\n", FIELDS, HeadFault::BadHead),
-        ("\r\n\r\nGET / HTTP/1.1", FIELDS, HeadFault::BadHead),
-        ("GET / HTTP/2.0", FIELDS, HeadFault::BadHead),
-    ];
-    for (line, fields, fault) in table {
-        let text = head(rt.alloc(), line, fields)?;
-        assert_eq!(rt;
-            fault_of(rt.alloc(), text.as_bytes()),
-            Some(fault),
-            "at {line}"
-        );
+    for (line, fields, fault) in JUDGED {
+        let found = fault_of(rt.alloc(), line, fields)?;
+        assert_eq!(rt; found, Some(fault), "at {line}");
     }
     Ok(())
 }
+
+/// A line, and the fault of its token.
+const TOKENS: [(&str, TokenFault); 4] = [
+    (EMPTY_TOKEN, TokenFault::Empty),
+    (
+        "GET /?reconnectionToken=a%20b HTTP/1.1",
+        TokenFault::BadByte { at: 1 },
+    ),
+    (
+        "GET /?reconnectionToken=%61+b HTTP/1.1",
+        TokenFault::BadByte { at: 1 },
+    ),
+    (
+        "GET /?reconnectionToken=%ff HTTP/1.1",
+        TokenFault::BadByte { at: 0 },
+    ),
+];
 
 #[test]
 fn tokens_are_judged_in_the_decoded_text(rt: HostRuntime) -> Result<(), Fail> {
-    let table = [
-        ("GET /?reconnectionToken= HTTP/1.1", TokenFault::Empty),
-        (
-            "GET /?reconnectionToken=a%20b HTTP/1.1",
-            TokenFault::BadByte { at: 1 },
-        ),
-        (
-            "GET /?reconnectionToken=%61+b HTTP/1.1",
-            TokenFault::BadByte { at: 1 },
-        ),
-        (
-            "GET /?reconnectionToken=%ff HTTP/1.1",
-            TokenFault::BadByte { at: 0 },
-        ),
-    ];
-    for (line, fault) in table {
-        let text = head(rt.alloc(), line, FIELDS)?;
-        assert_eq!(rt;
-            fault_of(rt.alloc(), text.as_bytes()),
-            Some(HeadFault::BadToken { fault }),
-            "at {line}"
-        );
+    for (line, fault) in TOKENS {
+        let found = fault_of(rt.alloc(), line, FIELDS)?;
+        assert_eq!(rt; found, Some(HeadFault::BadToken { fault }), "at {line}");
     }
     Ok(())
 }
 
+/// A line, its token, and whether it asks for a reconnection and for frames to be skipped.
+///
+/// A name counts only where one pair has it, in its decoded text.
+const LINES: [(&str, Option<&str>, (bool, bool)); 3] = [
+    (LINE, Some("t1"), (false, true)),
+    (
+        "GET /?reconnectionToken=a&reconnectionToken=b&reconnection=true&reconnection=true HTTP/1.1",
+        None,
+        (false, false),
+    ),
+    (
+        "GET /path?reconnection=%74rue&skipWebSocketFrames=True&%72econnectionToken=%74%31 HTTP/1.1",
+        Some("t1"),
+        (true, false),
+    ),
+];
+
 #[test]
-fn a_name_counts_where_one_pair_has_it(rt: HostRuntime) -> Result<(), Fail> {
-    let twice =
-        "GET /?reconnectionToken=a&reconnectionToken=b&reconnection=true&reconnection=true HTTP/1.1";
-    let upgrade = upgrade_of(rt.alloc(), twice, FIELDS)?;
-    assert!(rt; upgrade.token.is_none());
-    assert!(rt; !upgrade.reconnection);
-    let decoded =
-        "GET /path?reconnection=%74rue&skipWebSocketFrames=True&%72econnectionToken=%74%31 HTTP/1.1";
-    let upgrade = upgrade_of(rt.alloc(), decoded, FIELDS)?;
-    assert!(rt; is_token(&upgrade, "t1"));
-    assert!(rt; upgrade.reconnection);
-    assert!(rt; !upgrade.skip_frames);
+fn a_line_is_read(rt: HostRuntime) -> Result<(), Fail> {
+    for (line, token, flags) in LINES {
+        let upgrade = upgrade_of(rt.alloc(), line, FIELDS)?;
+        assert!(rt; has_token(&upgrade, token), "at {line}");
+        let found = (upgrade.reconnection, upgrade.skip_frames);
+        assert_eq!(rt; found, flags, "at {line}");
+    }
     Ok(())
 }
 
@@ -173,13 +207,10 @@ fn with_more_fields(alloc: Global, count: usize) -> Result<String, AllocError> {
 
 #[test]
 fn a_head_has_at_most_64_fields(rt: HostRuntime) -> Result<(), Fail> {
-    let most = with_more_fields(rt.alloc(), 59)?;
-    assert!(rt; read_head(rt.alloc(), most.as_bytes())?.is_some());
-    let more = with_more_fields(rt.alloc(), 60)?;
-    assert_eq!(rt;
-        fault_of(rt.alloc(), more.as_bytes()),
-        Some(HeadFault::BadHead)
-    );
+    for (count, expected) in [(59, Ok(true)), (60, Err(HeadFault::BadHead))] {
+        let text = with_more_fields(rt.alloc(), count)?;
+        assert_eq!(rt; reads(rt.alloc(), text.as_bytes()), expected);
+    }
     Ok(())
 }
 
@@ -197,31 +228,29 @@ fn head_of_length(alloc: Global, len: usize) -> Result<Vec<u8>, AllocError> {
 
 #[test]
 fn a_head_has_at_most_16384_bytes(rt: HostRuntime) -> Result<(), Fail> {
-    let most = head_of_length(rt.alloc(), 16_384)?;
-    assert_eq!(rt; most.len(), 16_384);
-    assert!(rt; read_head(rt.alloc(), most.as_slice())?.is_some());
-    let more = head_of_length(rt.alloc(), 16_385)?;
-    assert_eq!(rt;
-        fault_of(rt.alloc(), more.as_slice()),
-        Some(HeadFault::TooLong)
-    );
+    for (len, expected) in [(16_384, Ok(true)), (16_385, Err(HeadFault::TooLong))] {
+        let text = head_of_length(rt.alloc(), len)?;
+        assert_eq!(rt; text.len(), len);
+        assert_eq!(rt; reads(rt.alloc(), text.as_slice()), expected);
+    }
     Ok(())
 }
 
 #[test]
-fn bytes_with_no_end_are_open_until_too_long(rt: HostRuntime) -> Result<(), Fail> {
+fn bytes_with_no_end_are_open(rt: HostRuntime) -> Result<(), Fail> {
     let few = vec![in rt.alloc(); b'a'; 16_383]?;
-    assert!(rt; read_head(rt.alloc(), few.as_slice())?.is_none());
+    assert_eq!(rt; reads(rt.alloc(), few.as_slice()), Ok(false));
     assert_eq!(rt; read_answer(rt.alloc(), KEY, few.as_slice()), Ok(None));
+    Ok(())
+}
+
+#[test]
+fn more_bytes_with_no_end_are_too_long(rt: HostRuntime) -> Result<(), Fail> {
     let many = vec![in rt.alloc(); b'a'; 16_384]?;
-    assert_eq!(rt;
-        fault_of(rt.alloc(), many.as_slice()),
-        Some(HeadFault::TooLong)
-    );
-    assert_eq!(rt;
-        read_answer(rt.alloc(), KEY, many.as_slice()),
-        Err(AnswerFault::TooLong)
-    );
+    let found = reads(rt.alloc(), many.as_slice());
+    assert_eq!(rt; found, Err(HeadFault::TooLong));
+    let found = read_answer(rt.alloc(), KEY, many.as_slice());
+    assert_eq!(rt; found, Err(AnswerFault::TooLong));
     Ok(())
 }
 
@@ -241,12 +270,15 @@ fn a_request_is_written(rt: HostRuntime) -> Result<(), Fail> {
     Ok(())
 }
 
+fn written_and_read(alloc: Global) -> Result<Upgrade, Fail> {
+    let text = written(alloc)?;
+    whole_head(alloc, text.as_slice())
+}
+
 #[test]
 fn a_written_request_is_read(rt: HostRuntime) -> Result<(), Fail> {
-    let text = written(rt.alloc())?;
-    let (upgrade, len) = read_head(rt.alloc(), text.as_slice())?.ok_or("no head")?;
-    assert_eq!(rt; len, text.len());
-    assert!(rt; is_token(&upgrade, "t1"));
+    let upgrade = written_and_read(rt.alloc())?;
+    assert!(rt; has_token(&upgrade, Some("t1")));
     assert!(rt; !upgrade.reconnection);
     assert!(rt; upgrade.skip_frames);
     assert_eq!(rt;
@@ -256,23 +288,23 @@ fn a_written_request_is_read(rt: HostRuntime) -> Result<(), Fail> {
     Ok(())
 }
 
+/// A key, an answer, and what is read of it.
+const ANSWERS: [([u8; 16], &str, Result<Option<usize>, AnswerFault>); 5] = [
+    (KEY, "HTTP/1.1 101 Switching Protocols\r\n", Ok(None)),
+    (KEY, "HTTP/1.1 10 Ok\r\n\r\n", Err(AnswerFault::BadHead)),
+    (KEY, "HTTP/1.1 101 Ok\r\n\r\n", Err(AnswerFault::BadAccept)),
+    (
+        KEY,
+        "HTTP/1.1 101 Ok\r\nSec-WebSocket-Accept: no\r\nSec-WebSocket-Accept: s3pPLMBiTxaQ9kYGzzhZRbK+xOo=\r\n\r\n",
+        Err(AnswerFault::BadAccept),
+    ),
+    ([0; 16], ACCEPTED, Err(AnswerFault::BadAccept)),
+];
+
 #[test]
 fn other_answers_are_refused(rt: HostRuntime) {
-    let read = |text: &str| read_answer(rt.alloc(), KEY, text.as_bytes());
-    assert_eq!(rt; read("HTTP/1.1 101 Switching Protocols\r\n"), Ok(None));
-    assert_eq!(rt; read("HTTP/1.1 10 Ok\r\n\r\n"), Err(AnswerFault::BadHead));
-    assert_eq!(rt;
-        read("HTTP/1.1 101 Ok\r\n\r\n"),
-        Err(AnswerFault::BadAccept)
-    );
-    assert_eq!(rt;
-        read(
-            "HTTP/1.1 101 Ok\r\nSec-WebSocket-Accept: no\r\nSec-WebSocket-Accept: s3pPLMBiTxaQ9kYGzzhZRbK+xOo=\r\n\r\n"
-        ),
-        Err(AnswerFault::BadAccept)
-    );
-    assert_eq!(rt;
-        read_answer(rt.alloc(), [0; 16], ACCEPTED.as_bytes()),
-        Err(AnswerFault::BadAccept)
-    );
+    for (key, text, expected) in ANSWERS {
+        let found = read_answer(rt.alloc(), key, text.as_bytes());
+        assert_eq!(rt; found, expected, "at {text}");
+    }
 }

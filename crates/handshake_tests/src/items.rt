@@ -1,3 +1,5 @@
+//! Tests of ra_items: a head and then frames, as a server and a client read them from pieces.
+
 use ra_base::{Message, NoMemory, Token};
 use ra_frame::{FrameFault, append_written};
 use ra_items::ItemReader;

@@ -1,3 +1,5 @@
+//! Tests of ra_opening: what a server does on a head and the first frames behind it, and how it answers.
+
 use ra_base::{Kind, Message, NoMemory, Reason, Token};
 use ra_frame::append_written;
 use ra_opening::{Opening, OpeningEnd, OpeningStep, write_acceptance, write_refusal};
@@ -49,13 +51,15 @@ fn settings(alloc: Global) -> Result<ShakeSettings, NoMemory> {
 }
 
 fn make_server(rt: &impl Abort, alloc: Global) -> Result<Server, Fail> {
+    let key = Message::copy(alloc, b"key")?;
+    let settings = settings(alloc)?;
     let draws = Vec::from_array(alloc, [[7u8; 16]])?;
     assert!(rt; !draws.is_empty());
     Ok(Server {
         opening: Opening::new(alloc),
         entropy: MemEntropy::new(draws),
-        signer: Keyed::new(Message::copy(alloc, b"key")?),
-        settings: settings(alloc)?,
+        signer: Keyed::new(key),
+        settings,
         out: Vec::new(alloc),
     })
 }
@@ -90,12 +94,18 @@ fn append_control(to: &mut Vec<u8>, body: &[u8]) -> Result<(), NoMemory> {
     }
 }
 
+/// A request, both messages of a client, and these bytes.
+fn asking(alloc: Global, rest: &[u8]) -> Result<Vec<u8>, Fail> {
+    let mut bytes = head_and(alloc, true, FIRST)?;
+    append_control(&mut bytes, SECOND)?;
+    bytes.extend_from_slice(rest)?;
+    Ok(bytes)
+}
+
 #[test]
 fn a_client_asks_by_two_messages(rt: HostRuntime) -> Result<(), Fail> {
     let mut server = make_server(&rt, rt.alloc())?;
-    let mut bytes = head_and(rt.alloc(), true, FIRST)?;
-    append_control(&mut bytes, SECOND)?;
-    bytes.extend_from_slice(b"rest")?;
+    let bytes = asking(rt.alloc(), b"rest")?;
     let outcome = take(&rt, rt.alloc(), &mut server, &bytes);
     assert_eq!(rt; outcome, Outcome::Asks(Some(Kind::Management)));
     assert_eq!(rt; server.opening.unread(), b"rest".as_slice());
@@ -106,8 +116,7 @@ fn a_client_asks_by_two_messages(rt: HostRuntime) -> Result<(), Fail> {
 #[test]
 fn pieces_of_one_byte_come_to_the_same(rt: HostRuntime) -> Result<(), Fail> {
     let mut server = make_server(&rt, rt.alloc())?;
-    let mut bytes = head_and(rt.alloc(), true, FIRST)?;
-    append_control(&mut bytes, SECOND)?;
+    let bytes = asking(rt.alloc(), b"")?;
     let mut outcome = Outcome::Waits;
     for byte in &bytes {
         assert_eq!(rt; outcome, Outcome::Waits);
@@ -171,6 +180,18 @@ fn a_bad_head_is_answered(rt: HostRuntime) -> Result<(), Fail> {
     Ok(())
 }
 
+/// What the server comes to on one control frame.
+fn take_control(
+    rt: &impl Abort,
+    alloc: Global,
+    server: &mut Server,
+    body: &[u8],
+) -> Result<Outcome, Fail> {
+    let mut frames = Vec::new(alloc);
+    append_control(&mut frames, body)?;
+    Ok(take(rt, alloc, server, &frames))
+}
+
 /// What stands behind the head is discarded where the link is framed, and read from the frames again.
 #[test]
 fn a_link_is_framed_behind_its_head(rt: HostRuntime) -> Result<(), Fail> {
@@ -181,9 +202,8 @@ fn a_link_is_framed_behind_its_head(rt: HostRuntime) -> Result<(), Fail> {
     assert!(rt; server.opening.needs_framing());
     server.opening.set_framed();
     assert!(rt; server.opening.unread().is_empty());
-    let mut frames = Vec::new(rt.alloc());
-    append_control(&mut frames, FIRST)?;
-    assert_eq!(rt; take(&rt, rt.alloc(), &mut server, &frames), Outcome::Waits);
+    let outcome = take_control(&rt, rt.alloc(), &mut server, FIRST)?;
+    assert_eq!(rt; outcome, Outcome::Waits);
     Ok(())
 }
 

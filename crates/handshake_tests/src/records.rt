@@ -1,3 +1,4 @@
+//! Tests of ra_keep: a keeper in memory takes records and gives them back, and listed calls fail.
 ghost use Rattle.std.specs.Prelude.{◌≡◌, ◌<◌, ◌^◌, IfOk};
 ghost use Rattle.ra_base.specs.declared.kind.Kind.TheVariants.{Management};
 

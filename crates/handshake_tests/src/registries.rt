@@ -1,11 +1,12 @@
+//! Tests of ra_registry: who is admitted and refused, what a loss or an end does to a session, and what is kept of an acceptance.
 ghost use Rattle.std.specs.Prelude.{◌≡◌, ◌<◌, ◌&&◌, IsTrue};
 ghost use Rattle.ra_registry.specs.Rows.{row_of};
 ghost use Rattle.ra_registry.specs.Seats.{admits, ends, is_of, given, spent, IsUnspent};
 
 use ra_base::{Cause, Key, Kind, Moment, Reason, Request, Seat, Token};
 use ra_keep::{Keeper, MemKeeper};
-use ra_registry::{AdmitFault, Did, Past, Registry, RowState};
-use std::alloc::Global;
+use ra_registry::{AdmitFault, Did, Past, Registry, Row, RowState};
+use std::alloc::{AllocError, Global};
 use std::process::Abort;
 use std::test::Fail;
 
@@ -135,6 +136,14 @@ impl Trial {
         true
     }
 
+    /// Admits a new session, whose link is then lost.
+    fn admit_and_lose(&mut self, token: &str, admitted: u64, lost: u64) -> bool {
+        match self.admit(token, false, admitted) {
+            Some(seat) => self.lose(seat, lost),
+            None => false,
+        }
+    }
+
     /// Reports an end, where the seat can be spent.
     fn end(&mut self, seat: Seat, cause: Cause, at: u64) -> bool {
         let Some(now) = Moment::of_millis(at) else {
@@ -145,6 +154,25 @@ impl Trial {
         }
         self.registry.close(seat, cause, now);
         true
+    }
+
+    /// Admits a new session, which then ends.
+    fn admit_and_end(&mut self, token: &str, admitted: u64, cause: Cause, ended: u64) -> bool {
+        match self.admit(token, false, admitted) {
+            Some(seat) => seat.epoch == 1 && self.end(seat, cause, ended),
+            None => false,
+        }
+    }
+
+    /// Admits a new session and its reconnection at 50, and reports the loss of the first link at 60: the second seat.
+    fn admit_twice(&mut self, token: &str) -> Option<Seat> {
+        let first = self.admit(token, false, 0)?;
+        let second = self.admit(token, true, 50)?;
+        if self.lose(first, 60) {
+            Some(second)
+        } else {
+            None
+        }
     }
 
     /// Reports that something was told to a session, where it has no row.
@@ -162,8 +190,12 @@ impl Trial {
         Some(self.registry.expire(now))
     }
 
+    fn row(&self, token: &str) -> Option<Row> {
+        self.registry.row(&key(token)?)
+    }
+
     fn state(&self, token: &str) -> Option<RowState> {
-        let row = self.registry.row(&key(token)?)?;
+        let row = self.row(token)?;
         Some(row.state)
     }
 
@@ -184,35 +216,43 @@ impl Trial {
 }
 
 #[test]
-fn a_closed_session_was_seen_before(rt: HostRuntime) -> Result<(), Fail> {
+fn a_closed_session_was_seen_before(rt: HostRuntime) {
     let mut trial = Trial::new(rt.alloc());
-    let seat = trial.admit("t1", false, 0).ok_or("t1")?;
-    assert_eq!(rt; seat.epoch, 1);
-    assert!(rt; trial.end(seat, Cause::Disconnected, 5));
     let cause = Cause::Disconnected;
+    assert!(rt; trial.admit_and_end("t1", 0, cause, 5));
     assert_eq!(rt; trial.state("t1"), Some(RowState::Closed { cause }));
-    assert!(rt; trial.is_refused("t1", true, 10, Reason::SeenBefore));
-    assert!(rt; trial.is_refused("t1", false, 20, Reason::Duplicate));
-    assert!(rt; trial.is_refused("t2", true, 30, Reason::NeverSeen));
+    for (token, reconnection, at, reason) in [
+        ("t1", true, 10, Reason::SeenBefore),
+        ("t1", false, 20, Reason::Duplicate),
+        ("t2", true, 30, Reason::NeverSeen),
+    ] {
+        assert!(rt;
+            trial.is_refused(token, reconnection, at, reason),
+            "at {at}"
+        );
+    }
     assert_eq!(rt; trial.registry.history().len(), 5);
-    Ok(())
 }
 
 /// A session `t1` that was lost at 0, and shortened by another one's request at 1,000.
 fn shortened(alloc: Global) -> Option<Trial> {
     let mut trial = Trial::new(alloc);
-    let seat = trial.admit("t1", false, 0)?;
-    if !trial.lose(seat, 0) {
-        return None;
+    if trial.admit_and_lose("t1", 0, 0) && trial.epoch("t2", false, 1_000).is_some() {
+        Some(trial)
+    } else {
+        None
     }
-    trial.epoch("t2", false, 1_000)?;
-    Some(trial)
 }
 
 #[test]
 fn a_lost_session_is_kept_until_its_deadline(rt: HostRuntime) -> Result<(), Fail> {
     let mut trial = shortened(rt.alloc()).ok_or("t1")?;
     assert_eq!(rt; trial.epoch("t1", true, 300_999), Some(2));
+    Ok(())
+}
+
+#[test]
+fn a_lost_session_is_refused_from_its_deadline(rt: HostRuntime) -> Result<(), Fail> {
     let mut trial = shortened(rt.alloc()).ok_or("t1")?;
     assert!(rt; trial.is_refused("t1", true, 301_000, Reason::SeenBefore));
     Ok(())
@@ -221,10 +261,8 @@ fn a_lost_session_is_kept_until_its_deadline(rt: HostRuntime) -> Result<(), Fail
 #[test]
 fn an_older_seat_loses_nothing(rt: HostRuntime) -> Result<(), Fail> {
     let mut trial = Trial::new(rt.alloc());
-    let first = trial.admit("t1", false, 0).ok_or("t1")?;
-    let second = trial.admit("t1", true, 50).ok_or("t1")?;
+    let second = trial.admit_twice("t1").ok_or("t1")?;
     assert_eq!(rt; second.epoch, 2);
-    assert!(rt; trial.lose(first, 60));
     assert_eq!(rt; trial.state("t1"), Some(RowState::Up));
     assert_eq!(rt; trial.last(), Some(Did::Lost { epoch: 1 }));
     assert!(rt; trial.lose(second, 70));
@@ -237,22 +275,17 @@ fn an_older_seat_loses_nothing(rt: HostRuntime) -> Result<(), Fail> {
 }
 
 #[test]
-fn a_refusal_shortens_once(rt: HostRuntime) -> Result<(), Fail> {
+fn a_refusal_shortens_once(rt: HostRuntime) {
     let mut trial = Trial::new(rt.alloc());
-    let seat = trial.admit("t1", false, 0).ok_or("t1")?;
-    assert!(rt; trial.lose(seat, 0));
+    assert!(rt; trial.admit_and_lose("t1", 0, 0));
     let shortened = Some(1_000);
-    assert!(rt; trial.is_refused("t9", true, 1_000, Reason::NeverSeen));
-    assert_eq!(rt;
-        trial.state("t1"),
-        Some(RowState::Lost { at: 0, shortened })
-    );
-    assert!(rt; trial.is_refused("t9", true, 2_000, Reason::NeverSeen));
-    assert_eq!(rt;
-        trial.state("t1"),
-        Some(RowState::Lost { at: 0, shortened })
-    );
-    Ok(())
+    for at in [1_000, 2_000] {
+        assert!(rt; trial.is_refused("t9", true, at, Reason::NeverSeen));
+        assert_eq!(rt;
+            trial.state("t1"),
+            Some(RowState::Lost { at: 0, shortened })
+        );
+    }
 }
 
 #[test]
@@ -261,6 +294,13 @@ fn a_lost_session_expires_at_its_deadline(rt: HostRuntime) -> Result<(), Fail> {
     assert_eq!(rt; trial.expire(300_999), Some(0));
     assert_eq!(rt; trial.expire(301_000), Some(1));
     assert_eq!(rt; trial.last(), Some(Did::Expired));
+    Ok(())
+}
+
+#[test]
+fn a_session_with_no_row_is_missed(rt: HostRuntime) -> Result<(), Fail> {
+    let mut trial = shortened(rt.alloc()).ok_or("t1")?;
+    assert_eq!(rt; trial.expire(301_000), Some(1));
     assert_eq!(rt; trial.miss("t8", 301_000), Some(()));
     assert_eq!(rt; trial.last(), Some(Did::Missed));
     assert_eq!(rt; trial.state("t8"), None);
@@ -310,5 +350,43 @@ fn sessions_before_the_start_are_closed(rt: HostRuntime) -> Result<(), Fail> {
     assert!(rt; trial.is_refused("t1", true, 10, Reason::SeenBefore));
     assert!(rt; trial.is_refused("t1", false, 11, Reason::Duplicate));
     assert!(rt; trial.is_refused("t3", true, 12, Reason::NeverSeen));
+    Ok(())
+}
+
+/// A reconnection that is not kept leaves the row as it was, and is admitted at its second try.
+#[test]
+fn a_reconnection_is_kept(rt: HostRuntime) -> Result<(), Fail> {
+    let keeper = MemKeeper::with(Vec::new(rt.alloc()), vec![in rt.alloc(); 3u64]?);
+    let mut trial = Trial::over(rt.alloc(), keeper).ok_or("keeper")?;
+    assert!(rt; trial.admit_and_lose("t1", 0, 1));
+    let before = trial.row("t1");
+    assert!(rt; trial.fault("t1", true, 5) == Some(AdmitFault::KeepFault));
+    assert_eq!(rt; trial.row("t1"), before);
+    assert_eq!(rt; trial.registry.history().len(), 2);
+    assert_eq!(rt; trial.epoch("t1", true, 6), Some(2));
+    Ok(())
+}
+
+/// Admits new sessions with numbers in their tokens: how many were admitted.
+fn admit_many(trial: &mut Trial, count: u64) -> Result<u64, AllocError> {
+    let mut admitted = 0u64;
+    for number in 0..count {
+        let token = format!(in trial.alloc; "t{number}")?;
+        if trial.epoch(token.as_str(), false, number) == Some(1) {
+            admitted = admitted.saturating_add(1);
+        }
+    }
+    Ok(admitted)
+}
+
+#[test]
+fn sessions_have_no_limit_in_number(rt: HostRuntime) -> Result<(), Fail> {
+    let mut trial = Trial::new(rt.alloc());
+    assert_eq!(rt; admit_many(&mut trial, 1_001)?, 1_001);
+    assert_eq!(rt; trial.epoch("t1001", false, 1_001), Some(1));
+    assert_eq!(rt; trial.registry.history().len(), 1_002);
+    assert_eq!(rt; trial.kept(), Some((1_002, 501_501)));
+    assert!(rt; trial.is_refused("t1000", false, 1_002, Reason::Duplicate));
+    assert_eq!(rt; trial.epoch("t0", true, 1_003), Some(2));
     Ok(())
 }

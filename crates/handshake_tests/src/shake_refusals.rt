@@ -1,4 +1,4 @@
-//! What the server answers to first and second messages of every kind.
+//! Tests of ra_shake: what a server answers to first and second messages of every kind.
 ghost use Rattle.std.specs.Prelude.{◌≡◌, IfOk};
 ghost use Rattle.ra_shake.specs.declared.server.Stage.TheVariants as stages;
 

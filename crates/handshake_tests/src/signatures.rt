@@ -1,3 +1,5 @@
+//! Tests of ra_sign: codes against published values, signatures, and draws of random bytes.
+
 use ra_base::Message;
 use ra_ports::{Entropy, Signer};
 use ra_sign::{Drawn, Keyed, hmac};
@@ -57,19 +59,17 @@ fn codes_are_the_published_ones(rt: HostRuntime) {
     }
 }
 
+const TEXT: &[u8] = b"what do ya want for nothing?";
+
+const SIGNATURE: &[u8] = b"W9zBRr9gdU5qBCQmCJV1x1oAPwidJzmDnexYuWTsOEM=";
+
 #[test]
 fn a_signature_is_the_code_as_base64(rt: HostRuntime) -> Result<(), Fail> {
-    let alloc = rt.alloc();
-    let signer = Keyed::new(Message::copy(alloc, b"Jefe")?);
-    let text = b"what do ya want for nothing?";
-    let signature = signer.sign(alloc, text)?;
-    assert_eq!(rt;
-        signature.as_slice(),
-        b"W9zBRr9gdU5qBCQmCJV1x1oAPwidJzmDnexYuWTsOEM=".as_slice()
-    );
-    assert!(rt; signer.accepts(alloc, text, signature.as_slice())?);
-    assert!(rt; !signer.accepts(alloc, b"another text", signature.as_slice())?);
-    assert!(rt; !signer.accepts(alloc, text, b"W9zB")?);
+    let signer = Keyed::new(Message::copy(rt.alloc(), b"Jefe")?);
+    assert_eq!(rt; signer.sign(rt.alloc(), TEXT)?.as_slice(), SIGNATURE);
+    assert!(rt; signer.accepts(rt.alloc(), TEXT, SIGNATURE)?);
+    assert!(rt; !signer.accepts(rt.alloc(), b"another text", SIGNATURE)?);
+    assert!(rt; !signer.accepts(rt.alloc(), TEXT, b"W9zB")?);
     Ok(())
 }
 

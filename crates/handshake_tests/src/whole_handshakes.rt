@@ -1,4 +1,5 @@
-//! A whole handshake over one key, with each text as it stands on the link, and what a client does on other texts.
+//! Tests of ra_shake: a whole handshake over one key, with each text as it stands on the link, and what a client does on other
+//! texts.
 ghost use Rattle.std.specs.Prelude.{◌≡◌, ◌≢◌, IfOk, IsUtf8};
 ghost use Rattle.ra_base.specs.declared.kind.Kind.TheVariants as kinds;
 ghost use Rattle.ra_shake.specs.declared.server.Stage.TheVariants as stages;
@@ -46,27 +47,6 @@ fn server(alloc: Global) -> Result<ServerShake, Fail>
     Ok(ServerShake::new(settings, Token::from_text("t1")?, true, challenge))
 }
 
-fn said_by_server(step: ShakeStep) -> Result<Message, Fail> {
-    match step {
-        ShakeStep::Say { text } => Ok(text),
-        _ => Err("the server does not say anything".into()),
-    }
-}
-
-fn said_by_client(step: ClientStep) -> Result<Message, Fail> {
-    match step {
-        ClientStep::Say { text } => Ok(text),
-        _ => Err("the client does not say anything".into()),
-    }
-}
-
-fn asked(step: ShakeStep) -> Result<Request, Fail> {
-    if let ShakeStep::Ask { request } = step {
-        return Ok(request);
-    }
-    Err("the server does not ask".into())
-}
-
 const AUTH: &[u8] = br#"{"auth":"s3","data":"01010101-0101-4101-8101-010101010101","type":"auth"}"#;
 
 const SIGN: &[u8] =
@@ -75,33 +55,93 @@ const SIGN: &[u8] =
 const CONNECTION: &[u8] =
     br#"{"commit":"","desiredConnectionType":1,"signedData":"Dqnw6KOljpuXT/YhExHK6LPys4x8XzbOebMJCUS0738=","type":"connectionType"}"#;
 
+const ACCEPTED: &[u8] = br#"{"type":"ok"}"#;
+
+/// The server says this text on the first message of the client.
+fn server_says(
+    alloc: Global,
+    signer: &Keyed,
+    server: &mut ServerShake,
+    expected: &[u8],
+) -> Result<bool, Fail> {
+    if server.is_over() {
+        return Ok(false);
+    }
+    match server.on_control(alloc, signer, AUTH)? {
+        ShakeStep::Say { text } => Ok(text.as_slice() == expected),
+        _ => Ok(false),
+    }
+}
+
+fn asked(step: ShakeStep) -> Option<Request> {
+    if let ShakeStep::Ask { request } = step {
+        return Some(request);
+    }
+    None
+}
+
+/// What the server asks on the second message of the client.
+fn server_asks(
+    alloc: Global,
+    signer: &Keyed,
+    server: &mut ServerShake,
+) -> Result<Option<Request>, Fail> {
+    if server.is_over() {
+        return Ok(None);
+    }
+    Ok(asked(server.on_control(alloc, signer, CONNECTION)?))
+}
+
 #[test]
 fn a_server_signs_and_asks(rt: HostRuntime) -> Result<(), Fail> {
-    let alloc = rt.alloc();
-    let signer = Keyed::new(text(alloc, "key")?);
-    let mut server = server(alloc)?;
-    let sign = said_by_server(server.on_control(alloc, &signer, AUTH)?)?;
-    assert_eq!(rt; sign.as_slice(), SIGN);
+    let signer = Keyed::new(text(rt.alloc(), "key")?);
+    let mut server = server(rt.alloc())?;
+    assert!(rt; server_says(rt.alloc(), &signer, &mut server, SIGN)?);
     assert!(rt; !server.is_over());
-    let request = asked(server.on_control(alloc, &signer, CONNECTION)?)?;
+    let request = server_asks(rt.alloc(), &signer, &mut server)?.ok_or("asks nothing")?;
+    assert!(rt; server.is_over());
     assert_eq!(rt; request.kind, Some(Kind::Management));
     assert_eq!(rt; request.token.as_text(), "t1");
-    assert!(rt; request.reconnection && server.is_over());
+    assert!(rt; request.reconnection);
     Ok(())
+}
+
+fn begins(alloc: Global, client: &ClientShake) -> Result<bool, Fail> {
+    Ok(client.first(alloc)?.as_slice() == AUTH)
+}
+
+/// The client says this text on the first message of the server.
+fn client_says(
+    alloc: Global,
+    signer: &Keyed,
+    client: &mut ClientShake,
+    expected: &[u8],
+) -> Result<bool, Fail> {
+    match client.on_control(alloc, signer, SIGN)? {
+        ClientStep::Say { text } => Ok(text.as_slice() == expected),
+        _ => Ok(false),
+    }
 }
 
 #[test]
 fn a_client_signs_and_is_done(rt: HostRuntime) -> Result<(), Fail> {
-    let alloc = rt.alloc();
-    let signer = Keyed::new(text(alloc, "key")?);
-    let mut client = client(alloc, Kind::Management)?;
-    assert_eq!(rt; client.first(alloc)?.as_slice(), AUTH);
-    let connection = said_by_client(client.on_control(alloc, &signer, SIGN)?)?;
-    assert_eq!(rt; connection.as_slice(), CONNECTION);
-    let accepted = accept_text(alloc, Kind::Management)?;
-    assert_eq!(rt; accepted.as_slice(), br#"{"type":"ok"}"#.as_slice());
-    let last = client.on_control(alloc, &signer, accepted.as_slice())?;
-    assert_eq!(rt; reaction_of(&last), Reaction::Done);
+    let signer = Keyed::new(text(rt.alloc(), "key")?);
+    let mut client = client(rt.alloc(), Kind::Management)?;
+    assert!(rt; begins(rt.alloc(), &client)?);
+    assert!(rt; client_says(rt.alloc(), &signer, &mut client, CONNECTION)?);
+    let last = reacts(rt.alloc(), &signer, &mut client, ACCEPTED)?;
+    assert_eq!(rt; last, Reaction::Done);
+    Ok(())
+}
+
+#[test]
+fn acceptances_are_written(rt: HostRuntime) -> Result<(), Fail> {
+    for (kind, text) in [
+        (Kind::Management, ACCEPTED),
+        (Kind::ExtensionHost, b"{}".as_slice()),
+    ] {
+        assert_eq!(rt; accept_text(rt.alloc(), kind)?.as_slice(), text);
+    }
     Ok(())
 }
 
@@ -122,16 +162,25 @@ fn reaction_of(step: &ClientStep) -> Reaction {
     }
 }
 
+fn reacts(
+    alloc: Global,
+    signer: &Keyed,
+    client: &mut ClientShake,
+    body: &[u8],
+) -> Result<Reaction, Fail> {
+    Ok(reaction_of(&client.on_control(alloc, signer, body)?))
+}
+
 /// What a client does on the body in the first place, and in the second.
 fn reactions(alloc: Global, kind: Kind, body: &[u8]) -> Result<(Reaction, Reaction), Fail>
     requires { kind ≢ kinds.Tunnel }
 {
     let signer = Keyed::new(text(alloc, "key")?);
     let mut client = client(alloc, kind)?;
-    let before = reaction_of(&client.on_control(alloc, &signer, body)?);
+    let before = reacts(alloc, &signer, &mut client, body)?;
     let sign = br#"{"type":"sign","data":"c"}"#;
-    let _said = client.on_control(alloc, &signer, sign)?;
-    let after = reaction_of(&client.on_control(alloc, &signer, body)?);
+    let _said = reacts(alloc, &signer, &mut client, sign)?;
+    let after = reacts(alloc, &signer, &mut client, body)?;
     Ok((before, after))
 }
 
@@ -196,13 +245,6 @@ fn a_client_takes_the_texts_of_its_place(rt: HostRuntime) -> Result<(), Fail> {
         let pair = reactions(alloc, Kind::ExtensionHost, body)?;
         assert_eq!(rt; pair, (first, host));
     }
-    Ok(())
-}
-
-#[test]
-fn an_extension_host_is_accepted_by_an_empty_object(rt: HostRuntime) -> Result<(), Fail> {
-    let accepted = accept_text(rt.alloc(), Kind::ExtensionHost)?;
-    assert_eq!(rt; accepted.as_slice(), b"{}".as_slice());
     Ok(())
 }
 
