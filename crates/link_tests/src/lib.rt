@@ -2,6 +2,8 @@
 #![tactic(auto)]
 
 #[cfg(test)]
+mod dialers;
+#[cfg(test)]
 mod grand_worlds;
 #[cfg(test)]
 mod hostile_links;

@@ -6,7 +6,7 @@ mod channel_clients;
 #[cfg(test)]
 mod channel_servers;
 #[cfg(test)]
-mod dialers;
+mod fixtures;
 #[cfg(test)]
 mod hubs;
 #[cfg(test)]
