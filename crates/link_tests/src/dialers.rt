@@ -1,4 +1,4 @@
-//! Dialers over links in memory: the server's texts and frames are written out.
+//! Dialers over links in memory: what they do at each thing that happens, where the server's texts and frames are written out.
 ghost use Rattle.std.specs.Prelude.{◌≢◌, IfOk, IsUtf8};
 ghost use Rattle.ra_base.specs.declared.kind.Kind.TheVariants as kinds;
 ghost use Rattle.ra_values.specs.Spelling.{Fits, levels};
@@ -8,6 +8,7 @@ ghost use Rattle.ra_session.specs.declared.values.Role.TheVariants as roles;
 ghost use Rattle.ra_dial.specs.Clients.{CanDial};
 ghost use Rattle.ra_dial.specs.View.{settings_of};
 
+use crate::fixtures::{DISCONNECT, SERVER_1, at};
 use ra_base::{Key, Kind, Message, Moment, Token};
 use ra_dial::{DialAct, DialEnd, DialEvent, DialSettings, Dialer};
 use ra_ports::MemEntropy;
@@ -31,11 +32,6 @@ const ACCEPT_HOST: &[u8] = b"\x07\0\0\0\0\0\0\0\0\0\0\0\0\x02\0\0\0\0\0\0\0\0\0\
 const REFUSE: &[u8] =
     b"\x02\0\0\0\0\0\0\0\0\0\0\08{\"reason\":\"Duplicate reconnection token\",\"type\":\"error\"}";
 
-/// Server message 1: Initialize.
-const INITIALIZE: &[u8] = b"\x01\0\0\0\x01\0\0\0\x01\0\0\0\x06\x04\x01\x06\xc8\x01\0";
-
-const DISCONNECT: &[u8] = b"\x05\0\0\0\0\0\0\0\0\0\0\0\0";
-
 const RESUME: &[u8] = b"\x08\0\0\0\0\0\0\0\0\0\0\0\0";
 
 /// Message 1 of an extension host.
@@ -46,10 +42,6 @@ fn tools(alloc: Global) -> Result<Text, Fail>
     ensures { IfOk result (λ t. Fits levels (text t)) }
 {
     Ok(Text::of(alloc, "tools")?)
-}
-
-fn at(millis: u64) -> Result<Moment, Fail> {
-    Ok(Moment::of_millis(millis).ok_or("no moment")?)
 }
 
 /// A text as a message.
@@ -113,7 +105,7 @@ fn make_client(alloc: Global, kind: Kind, skip_frames: bool) -> Result<Connectio
     draws.push([7; 16])?;
     let settings = settings(alloc, kind, skip_frames)?;
     Ok(Connection {
-        dialer: Dialer::new(alloc, settings, at(0)?)?,
+        dialer: Dialer::new(alloc, settings, at(0))?,
         entropy: MemEntropy::new(draws),
         alloc,
     })
@@ -151,7 +143,7 @@ impl Connection {
     fn step(&mut self, event: DialEvent, millis: u64) -> Result<(u8, u64), Fail> {
         let act = self
             .dialer
-            .step(self.alloc, event, &mut self.entropy, at(millis)?)?;
+            .step(self.alloc, event, &mut self.entropy, at(millis))?;
         Ok(seen(&act))
     }
 
@@ -179,7 +171,7 @@ fn sent(letter: u8) -> &'static [u8] {
         b'2' => ACCEPT,
         b'3' => ACCEPT_HOST,
         b'4' => REFUSE,
-        b'5' => INITIALIZE,
+        b'5' => SERVER_1,
         b'6' => RESUME,
         b'7' => HOST_MESSAGE,
         _ => DISCONNECT,

@@ -6,34 +6,21 @@ ghost use Rattle.ra_session.specs.View.{TellFits};
 ghost use Rattle.ra_link.specs.Cores.{seat_in};
 ghost use Rattle.ra_link.specs.Makes.{Holds};
 
-use ra_base::{Key, Kind, Message, Moment, NoMemory, Token};
+use crate::fixtures::{
+    ACK_2, Around, FIRST, GREETING, SECOND, SERVER_1, append_control, at, head, key, make_around,
+};
+use ra_base::NoMemory;
 use ra_chan_server::Fire;
-use ra_frame::append_written;
-use ra_hub::{Hub, JobList, PlainHub};
+use ra_hub::{Hub, PlainHub};
 use ra_ipc::Answer;
-use ra_link::{LinkCore, Settings};
-use ra_ports::MemEntropy;
+use ra_link::LinkCore;
 use ra_session::Tell;
-use ra_shake::ShakeSettings;
-use ra_sign::Keyed;
-use ra_upgrade::request;
 use ra_values::{Text, Value};
 use std::alloc::Global;
 use std::process::Abort;
 use std::test::Fail;
 
-const FIRST: &[u8] = br#"{"auth":"s3","data":"c","type":"auth"}"#;
-
-const SECOND: &[u8] =
-    br#"{"commit":"","desiredConnectionType":1,"signedData":"s3","type":"connectionType"}"#;
-
 const OK: &[u8] = br#"{"type":"ok"}"#;
-
-/// Client messages 1 and 2: the context `window`, and Initialize.
-const OPENING: &[u8] =
-    b"\x01\0\0\0\x01\0\0\0\0\0\0\0\x08\x01\x06window\x01\0\0\0\x02\0\0\0\0\0\0\0\x06\x04\x01\x06\xc8\x01\0";
-
-const SERVER_1: &[u8] = b"\x01\0\0\0\x01\0\0\0\x01\0\0\0\x06\x04\x01\x06\xc8\x01\0";
 
 const CLIENT_3: &[u8] =
     b"\x01\0\0\0\x03\0\0\0\x01\0\0\0\x17\x04\x04\x06\x64\x06\0\x01\x05tools\x01\x04echo\x01\x02hi";
@@ -42,8 +29,6 @@ const SERVER_2: &[u8] = b"\x01\0\0\0\x02\0\0\0\x03\0\0\0\x0b\x04\x02\x06\xc9\x01
 
 const CLIENT_4: &[u8] =
     b"\x01\0\0\0\x04\0\0\0\x01\0\0\0\x14\x04\x04\x06\x66\x06\x01\x01\x05tools\x01\x04said\0";
-
-const ACK_2: &[u8] = b"\x03\0\0\0\0\0\0\0\x02\0\0\0\0";
 
 const ACK_4: &[u8] = b"\x03\0\0\0\0\0\0\0\x04\0\0\0\0";
 
@@ -60,38 +45,6 @@ const CLIENT_6: &[u8] =
 const SERVER_4_5: &[u8] =
     b"\x01\0\0\0\x04\0\0\0\x06\0\0\0\x0b\x04\x02\x06\xcc\x01\x06\x01\x01\x02hi\x01\0\0\0\x05\0\0\0\x06\0\0\0\x08\x04\x02\x06\xc9\x01\x06\x03\0";
 
-/// What a core is given beside its hub.
-#[derive(Drop)]
-struct Around {
-    jobs: JobList,
-    entropy: MemEntropy,
-    signer: Keyed,
-    settings: Settings,
-}
-
-fn make_around(rt: &impl Abort, alloc: Global) -> Result<Around, Fail> {
-    let draws = Vec::from_array(alloc, [[7u8; 16]])?;
-    assert!(rt; !draws.is_empty());
-    Ok(Around {
-        jobs: JobList::new(alloc),
-        entropy: MemEntropy::new(draws),
-        signer: Keyed::new(Message::copy(alloc, b"key")?),
-        settings: Settings {
-            shake: ShakeSettings {
-                secret: Some(Message::copy(alloc, b"s3")?),
-                commit: Message::empty(alloc),
-            },
-        },
-    })
-}
-
-fn at(millis: u64) -> Moment {
-    match Moment::of_millis(millis) {
-        Some(moment) => moment,
-        None => Moment::start(),
-    }
-}
-
 /// What is written for a piece, where the link goes on.
 fn feed<H: Hub>(
     alloc: Global,
@@ -106,6 +59,7 @@ fn feed<H: Hub>(
 {
     let Around {
         jobs,
+        clock: _,
         entropy,
         signer,
         settings,
@@ -200,10 +154,7 @@ fn tell<H: Hub>(
     requires { Holds (H.seats hub.old) (seat_in core.now) }
     ensures { Holds (H.seats hub.new) (seat_in core.now) }
 {
-    let key = Key {
-        kind: Kind::Management,
-        token: Token::from_text("t1")?,
-    };
+    let key = key()?;
     let tell = answer_to(alloc, id)?;
     Ok(hub.tell(alloc, &key, tell, at(millis)).is_ok())
 }
@@ -217,12 +168,10 @@ fn tick<H: Hub>(alloc: Global, core: &LinkCore, hub: &mut H, millis: u64)
     hub.tick(alloc, at(millis));
 }
 
+/// A short body as the bytes of a control frame.
 fn control(alloc: Global, body: &[u8]) -> Result<Vec<u8>, NoMemory> {
     let mut bytes = Vec::new(alloc);
-    if body.len() > 1000 {
-        return Err(NoMemory);
-    }
-    append_written(&mut bytes, 2, 0, 0, body)?;
+    append_control(&mut bytes, body)?;
     Ok(bytes)
 }
 
@@ -238,11 +187,10 @@ fn shake<H: Hub>(
     requires { Holds (H.seats hub.old) (seat_in core.old) }
     ensures { Holds (H.seats hub.new) (seat_in core.new) }
 {
-    let token = Token::from_text("t1")?;
-    let head = request(alloc, "localhost", &token, reconnection, true, [1; 16])?;
+    let head = head(alloc, "t1", reconnection, true)?;
     let first = control(alloc, FIRST)?;
     let second = control(alloc, SECOND)?;
-    feed(alloc, core, hub, around, head.as_slice(), millis);
+    feed(alloc, core, hub, around, &head, millis);
     feed(alloc, core, hub, around, &first, millis);
     Ok(feed(alloc, core, hub, around, &second, millis))
 }
@@ -258,7 +206,7 @@ fn first_steps<H: Hub>(
     ensures { Holds (H.seats hub.new) (seat_in core.new) }
 {
     let accepted = shake(alloc, core, hub, around, false, 0)?.ends_with(OK);
-    let greeted = says(alloc, core, hub, around, OPENING, 0, SERVER_1);
+    let greeted = says(alloc, core, hub, around, GREETING, 0, SERVER_1);
     let called = says(alloc, core, hub, around, CLIENT_3, 0, &[]);
     let told = tell(alloc, core, hub, 0, 0)?;
     let answered = says(alloc, core, hub, around, &[], 0, SERVER_2);

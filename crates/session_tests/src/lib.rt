@@ -1,4 +1,4 @@
-//! Tests of values, packets, channels, sessions, the hub, the dialer and the tools, where no contract says what they do.
+//! Tests of values, packets, channels, sessions, the hub and the tools, where no contract says what they do.
 #![tactic(auto)]
 
 #[cfg(test)]

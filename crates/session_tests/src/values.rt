@@ -53,8 +53,8 @@ fn nested_fit(alloc: Global, arrays: usize) -> Option<bool> {
 
 #[test]
 fn values_fit_down_to_the_last_level(rt: HostRuntime) {
-    assert_eq!(rt; nested_fit(rt.alloc(), 127), Some(true));
-    assert_eq!(rt; nested_fit(rt.alloc(), 128), Some(false));
+    assert!(rt; nested_fit(rt.alloc(), 127) == Some(true));
+    assert!(rt; nested_fit(rt.alloc(), 128) == Some(false));
 }
 
 /// The bytes of so many arrays, one in the other, around an undefined value.
@@ -76,13 +76,26 @@ fn end_of(alloc: Global, bytes: &[u8]) -> Option<usize> {
     }
 }
 
+/// Whether so many arrays, one in the other, are read to this end.
+fn nested_end_at(alloc: Global, arrays: usize, end: usize) -> bool {
+    match nested_bytes(alloc, arrays) {
+        Ok(bytes) => end_of(alloc, &bytes) == Some(end),
+        Err(_) => false,
+    }
+}
+
+/// Whether so many arrays, one in the other, are too deep at this place.
+fn nested_too_deep(alloc: Global, arrays: usize, at: usize) -> bool {
+    match nested_bytes(alloc, arrays) {
+        Ok(bytes) => is_bad(alloc, &bytes, at, Wrong::TooDeep),
+        Err(_) => false,
+    }
+}
+
 #[test]
-fn the_last_level_is_read_and_no_deeper_one(rt: HostRuntime) -> Result<(), Fail> {
-    let deepest = nested_bytes(rt.alloc(), 127)?;
-    assert_eq!(rt; end_of(rt.alloc(), &deepest), Some(255));
-    let deeper = nested_bytes(rt.alloc(), 128)?;
-    assert!(rt; is_bad(rt.alloc(), &deeper, 256, Wrong::TooDeep));
-    Ok(())
+fn the_last_level_is_read_and_no_deeper_one(rt: HostRuntime) {
+    assert!(rt; nested_end_at(rt.alloc(), 127, 255));
+    assert!(rt; nested_too_deep(rt.alloc(), 128, 256));
 }
 
 /// The value fits, and is written.
@@ -111,7 +124,7 @@ fn what_was_read_is_copied_and_written(rt: HostRuntime) {
     let bytes = [
         4, 3, 6, 0xff, 0xff, 0xff, 0xff, 0x0f, 1, 2, 0x68, 0x69, 4, 1, 0, 99,
     ];
-    assert_eq!(rt; end_of(rt.alloc(), &bytes), Some(15));
+    assert!(rt; end_of(rt.alloc(), &bytes) == Some(15));
     assert!(rt; copy_is_written_as(rt.alloc(), &bytes, &bytes[..15]));
 }
 
