@@ -103,24 +103,35 @@ type Row = (Act, u64, (u8, i32), &'static [u8]);
 /// Nothing to tell.
 const NOTHING: (u8, i32) = (b'-', 0);
 
-/// What happened: W with the id of a call, H, S and C with the id of a call, F with the id of a listener. A plus where nothing did,
-/// but a frame was taken and another one is due.
+/// What the peer wants: W with the id of a call, H.
+fn wanted(work: &Work) -> (u8, i32) {
+    match work {
+        Work::Call { id, .. } => (b'W', *id),
+        Work::Host { .. } => (b'H', 0),
+    }
+}
+
+/// How a call ended: S or C.
+fn settled(outcome: &Outcome) -> u8 {
+    match outcome {
+        Outcome::Answered { .. } => b'S',
+        Outcome::Cancelled => b'C',
+    }
+}
+
+/// What happened: what the peer wants, how the call with this id ended, or F with the id of a listener.
+fn happening(happened: &Happened) -> (u8, i32) {
+    match happened {
+        Happened::Work { work } => wanted(work),
+        Happened::Settled { id, outcome } => (settled(outcome), *id),
+        Happened::Fired { id, .. } => (b'F', *id),
+    }
+}
+
+/// What happened in a turn. A plus where nothing did, but a frame was taken and another one is due.
 fn seen(turn: &Turn) -> (u8, i32) {
     match &turn.happened {
-        Some(
-            Happened::Work {
-                work: Work::Call { id, .. },
-            },
-        ) => (b'W', *id),
-        Some(Happened::Work { .. }) => (b'H', 0),
-        Some(
-            Happened::Settled {
-                id,
-                outcome: Outcome::Answered { .. },
-            },
-        ) => (b'S', *id),
-        Some(Happened::Settled { id, .. }) => (b'C', *id),
-        Some(Happened::Fired { id, .. }) => (b'F', *id),
+        Some(happened) => happening(happened),
         None => (if turn.took && turn.again { b'+' } else { b'-' }, 0),
     }
 }
@@ -543,30 +554,41 @@ fn large(alloc: Global) -> Result<Vec<u8>, NoMemory> {
     Ok(bytes)
 }
 
-/// The bytes of this turn of an extension host are these.
-fn is_host(turn: &Turn, bytes: &[u8]) -> bool {
+/// Whether an extension host said these bytes.
+fn is_said(work: &Work, bytes: &[u8]) -> bool {
+    match work {
+        Work::Host { body } => body.as_slice() == bytes,
+        Work::Call { .. } => false,
+    }
+}
+
+/// Whether that is what happened.
+fn is_host(happened: &Happened, bytes: &[u8]) -> bool {
+    match happened {
+        Happened::Work { work } => is_said(work, bytes),
+        Happened::Settled { .. } | Happened::Fired { .. } => false,
+    }
+}
+
+fn hands_up(turn: &Turn, bytes: &[u8]) -> bool {
     match &turn.happened {
-        Some(
-            Happened::Work {
-                work: Work::Host { body },
-            },
-        ) => body.as_slice() == bytes,
-        _ => false,
+        Some(happened) => is_host(happened, bytes),
+        None => false,
     }
 }
 
 /// A session of an extension host hears these bytes, and hands up those behind the header of a frame.
-fn hands_up(alloc: Global, frame: &[u8]) -> Result<bool, SessionFault> {
+fn hands_on(alloc: Global, frame: &[u8]) -> Result<bool, SessionFault> {
     let now = Moment::start();
     let mut session = Session::new(alloc, Kind::ExtensionHost, Role::Serving, now)?;
     attach(alloc, &mut session, 1, now)?;
     let turn = session.turn(alloc, 1, frame, now)?;
-    Ok(frame.len() > 13 && is_host(&turn, &frame[13..]))
+    Ok(frame.len() > 13 && hands_up(&turn, &frame[13..]))
 }
 
 #[test]
 fn a_large_message_is_handed_up(rt: HostRuntime) -> Result<(), Fail> {
     let frame = large(rt.alloc())?;
-    assert!(rt; hands_up(rt.alloc(), &frame).unwrap_or(false));
+    assert!(rt; hands_on(rt.alloc(), &frame).unwrap_or(false));
     Ok(())
 }
