@@ -11,7 +11,6 @@ use ra_shake::ShakeSettings;
 use ra_sign::Keyed;
 use ra_upgrade::request;
 use std::alloc::Global;
-use std::process::Abort;
 use std::test::Fail;
 
 /// A client's first message of its handshake.
@@ -81,6 +80,8 @@ pub(crate) fn append_control(to: &mut Vec<u8>, body: &[u8]) -> Result<(), NoMemo
 /// What a server has beside its hub.
 #[derive(Drop)]
 pub(crate) struct Around {
+    pub alloc: Global,
+    pub now: Moment,
     pub jobs: JobList,
     pub clock: MemClock,
     pub entropy: MemEntropy,
@@ -89,15 +90,15 @@ pub(crate) struct Around {
 }
 
 /// A clock that stands.
-fn clock(rt: &impl Abort, alloc: Global) -> Result<MemClock, Fail> {
-    let moments = Vec::from_array(alloc, [Moment::start()])?;
-    assert!(rt; !moments.is_empty());
+fn clock(alloc: Global) -> Result<MemClock, Fail> {
+    let mut moments = Vec::new(alloc);
+    moments.push(Moment::start())?;
     Ok(MemClock::new(moments))
 }
 
-fn entropy(rt: &impl Abort, alloc: Global) -> Result<MemEntropy, Fail> {
-    let draws = Vec::from_array(alloc, [[7u8; 16]])?;
-    assert!(rt; !draws.is_empty());
+fn entropy(alloc: Global) -> Result<MemEntropy, Fail> {
+    let mut draws = Vec::new(alloc);
+    draws.push([7; 16])?;
     Ok(MemEntropy::new(draws))
 }
 
@@ -109,11 +110,13 @@ fn settings(alloc: Global) -> Result<Settings, NoMemory> {
     })
 }
 
-pub(crate) fn make_around(rt: &impl Abort, alloc: Global) -> Result<Around, Fail> {
+pub(crate) fn make_around(alloc: Global) -> Result<Around, Fail> {
     Ok(Around {
+        alloc,
+        now: Moment::start(),
         jobs: JobList::new(alloc),
-        clock: clock(rt, alloc)?,
-        entropy: entropy(rt, alloc)?,
+        clock: clock(alloc)?,
+        entropy: entropy(alloc)?,
         signer: Keyed::new(Message::copy(alloc, b"key")?),
         settings: settings(alloc)?,
     })

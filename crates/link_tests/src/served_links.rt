@@ -8,7 +8,6 @@ use ra_ports::{LinkStep, MemLink};
 use ra_session::{IpcFault, Work};
 use ra_upgrade::HeadFault;
 use std::alloc::Global;
-use std::process::Abort;
 use std::test::Fail;
 
 const HOST: &[u8] =
@@ -82,6 +81,11 @@ pub(crate) struct Outcome {
     pub jobs: usize,
 }
 
+/// How a link ends, how many jobs it gives, and whether what is sent is as it should be.
+type Found = Result<(Ended, usize, bool), Fail>;
+
+pub(crate) type ServerHub = PlainHub<MemKeeper>;
+
 fn push_piece(alloc: Global, steps: &mut Vec<LinkStep>, bytes: &[u8]) -> Result<(), Fail> {
     if bytes.is_empty() {
         return Ok(());
@@ -93,25 +97,32 @@ fn push_piece(alloc: Global, steps: &mut Vec<LinkStep>, bytes: &[u8]) -> Result<
     Ok(())
 }
 
-/// A link that gives these bytes, in two pieces with an idle between them.
-fn link_of(
-    rt: &impl Abort,
+/// A link that takes these steps, and those of the second list once it is framed.
+fn mem_link(
     alloc: Global,
-    bytes: &[u8],
-    cut: usize,
+    before: Vec<LinkStep>,
+    after: Vec<LinkStep>,
     failing: Vec<u64>,
 ) -> Result<MemLink, Fail> {
+    let filled = before.iter().all(|step| step.is_filled());
+    if filled && after.iter().all(|step| step.is_filled()) {
+        Ok(MemLink::new(alloc, before, after, failing))
+    } else {
+        Err("an empty piece".into())
+    }
+}
+
+/// A link that gives these bytes, in two pieces with an idle between them.
+fn link_of(alloc: Global, bytes: &[u8], cut: usize, failing: Vec<u64>) -> Result<MemLink, Fail> {
     let cut = if cut < bytes.len() { cut } else { bytes.len() };
     let mut steps = Vec::new(alloc);
     push_piece(alloc, &mut steps, &bytes[..cut])?;
     steps.push(LinkStep::Idle)?;
     push_piece(alloc, &mut steps, &bytes[cut..])?;
-    let after = Vec::new(alloc);
-    assert!(rt; steps.iter().all(|step| step.is_filled()));
-    Ok(MemLink::new(alloc, steps, after, failing))
+    mem_link(alloc, steps, Vec::new(alloc), failing)
 }
 
-pub(crate) fn hub_with(alloc: Global, failing: Vec<u64>) -> Result<PlainHub<MemKeeper>, Fail> {
+pub(crate) fn hub_with(alloc: Global, failing: Vec<u64>) -> Result<ServerHub, Fail> {
     let keeper = MemKeeper::with(Vec::new(alloc), failing);
     match PlainHub::start(alloc, keeper, 10_800_000, 300_000) {
         Ok(hub) => Ok(hub),
@@ -120,20 +131,10 @@ pub(crate) fn hub_with(alloc: Global, failing: Vec<u64>) -> Result<PlainHub<MemK
 }
 
 /// One link is served by a hub.
-fn serve(
-    alloc: Global,
-    hub: &mut PlainHub<MemKeeper>,
-    link: &mut MemLink,
-    around: &mut Around,
-    turns: u64,
-) -> Ended {
-    let Around {
-        jobs,
-        clock,
-        entropy,
-        signer,
-        settings,
-    } = around;
+fn serve(hub: &mut ServerHub, link: &mut MemLink, around: &mut Around, turns: u64) -> Ended {
+    let alloc = around.alloc;
+    let (jobs, clock, entropy) = (&mut around.jobs, &mut around.clock, &mut around.entropy);
+    let (signer, settings) = (&around.signer, &around.settings);
     let end = serve_link(
         alloc, link, hub, jobs, clock, entropy, signer, settings, turns,
     );
@@ -142,14 +143,13 @@ fn serve(
 
 /// What a link comes to.
 fn outcome(
-    rt: &impl Abort,
     alloc: Global,
-    hub: &mut PlainHub<MemKeeper>,
+    hub: &mut ServerHub,
     link: &mut MemLink,
     turns: u64,
 ) -> Result<Outcome, Fail> {
-    let mut around = make_around(rt, alloc)?;
-    let end = serve(alloc, hub, link, &mut around, turns);
+    let mut around = make_around(alloc)?;
+    let end = serve(hub, link, &mut around, turns);
     let sent = Vec::from_slice(alloc, link.sent())?;
     let jobs = around.jobs.jobs().len();
     Ok(Outcome { end, sent, jobs })
@@ -157,28 +157,21 @@ fn outcome(
 
 /// What a link comes to that gives these bytes. Some calls of the link fail.
 pub(crate) fn run_on(
-    rt: &impl Abort,
     alloc: Global,
-    hub: &mut PlainHub<MemKeeper>,
+    hub: &mut ServerHub,
     bytes: &[u8],
     cut: usize,
     failing: Vec<u64>,
     turns: u64,
 ) -> Result<Outcome, Fail> {
-    let mut link = link_of(rt, alloc, bytes, cut, failing)?;
-    outcome(rt, alloc, hub, &mut link, turns)
+    let mut link = link_of(alloc, bytes, cut, failing)?;
+    outcome(alloc, hub, &mut link, turns)
 }
 
 /// What a link of a new hub comes to that gives these bytes.
-fn run(
-    rt: &impl Abort,
-    alloc: Global,
-    bytes: &[u8],
-    cut: usize,
-    turns: u64,
-) -> Result<Outcome, Fail> {
+fn run(alloc: Global, bytes: &[u8], cut: usize, turns: u64) -> Result<Outcome, Fail> {
     let mut hub = hub_with(alloc, Vec::new(alloc))?;
-    run_on(rt, alloc, &mut hub, bytes, cut, Vec::new(alloc), turns)
+    run_on(alloc, &mut hub, bytes, cut, Vec::new(alloc), turns)
 }
 
 /// All that a client sends behind its head: its handshake, and these bytes of its session.
@@ -209,58 +202,43 @@ fn client(alloc: Global, second: &[u8], frames: &[u8]) -> Result<Vec<u8>, Fail> 
 }
 
 /// How a link ends that gives these bytes, how many jobs it gives, and whether what is sent begins and ends so.
-fn comes_to(
-    rt: &impl Abort,
-    alloc: Global,
-    bytes: &[u8],
-    front: &[u8],
-    back: &[u8],
-) -> Result<(Ended, usize, bool), Fail> {
-    let Outcome { end, sent, jobs } = run(rt, alloc, bytes, 0, 100)?;
+fn comes_to(alloc: Global, bytes: &[u8], front: &[u8], back: &[u8]) -> Found {
+    let Outcome { end, sent, jobs } = run(alloc, bytes, 0, 100)?;
     Ok((end, jobs, sent.starts_with(front) && sent.ends_with(back)))
 }
 
 #[test]
 fn a_window_is_served(rt: HostRuntime) -> Result<(), Fail> {
     let bytes = client(rt.alloc(), SECOND, OPENING)?;
-    let found = comes_to(&rt, rt.alloc(), &bytes, SWITCHING, ACCEPTED)?;
+    let found = comes_to(rt.alloc(), &bytes, SWITCHING, ACCEPTED)?;
     assert_eq!(rt; found, (Ended::Closed, 1, true));
     Ok(())
 }
 
 /// A link that goes over to frames: the head, and then their payload.
-fn framed_link(
-    rt: &impl Abort,
-    alloc: Global,
-    head: &[u8],
-    payload: &[u8],
-) -> Result<MemLink, Fail> {
+fn framed_link(alloc: Global, head: &[u8], payload: &[u8]) -> Result<MemLink, Fail> {
     let mut before = Vec::new(alloc);
     push_piece(alloc, &mut before, head)?;
     let mut after = Vec::new(alloc);
     push_piece(alloc, &mut after, payload)?;
-    assert!(rt; before.iter().all(|step| step.is_filled()));
-    assert!(rt; after.iter().all(|step| step.is_filled()));
-    Ok(MemLink::new(alloc, before, after, Vec::new(alloc)))
+    mem_link(alloc, before, after, Vec::new(alloc))
 }
 
 /// A window's link that goes over to frames.
-fn framed_window(rt: &impl Abort, alloc: Global) -> Result<MemLink, Fail> {
+fn framed_window(alloc: Global) -> Result<MemLink, Fail> {
     let head = head(alloc, "t1", false, false)?;
     let mut payload = Vec::new(alloc);
     append_payload(&mut payload, SECOND, OPENING)?;
-    framed_link(rt, alloc, &head, &payload)
+    framed_link(alloc, &head, &payload)
 }
 
 #[test]
 fn a_framed_link_is_served(rt: HostRuntime) -> Result<(), Fail> {
     let mut hub = hub_with(rt.alloc(), Vec::new(rt.alloc()))?;
-    let mut link = framed_window(&rt, rt.alloc())?;
-    let Outcome { end, sent, jobs } = outcome(&rt, rt.alloc(), &mut hub, &mut link, 100)?;
-    assert_eq!(rt;
-        (end, jobs, sent.ends_with(ACCEPTED)),
-        (Ended::Closed, 1, true)
-    );
+    let mut link = framed_window(rt.alloc())?;
+    let Outcome { end, sent, jobs } = outcome(rt.alloc(), &mut hub, &mut link, 100)?;
+    let is_last = sent.ends_with(ACCEPTED);
+    assert_eq!(rt; (end, jobs, is_last), (Ended::Closed, 1, true));
     Ok(())
 }
 
@@ -268,7 +246,7 @@ fn a_framed_link_is_served(rt: HostRuntime) -> Result<(), Fail> {
 #[test]
 fn an_extension_host_is_served(rt: HostRuntime) -> Result<(), Fail> {
     let bytes = client(rt.alloc(), HOST, b"\x01\0\0\0\x01\0\0\0\0\0\0\0\x01x")?;
-    let found = comes_to(&rt, rt.alloc(), &bytes, SWITCHING, ACCEPTED_HOST)?;
+    let found = comes_to(rt.alloc(), &bytes, SWITCHING, ACCEPTED_HOST)?;
     assert_eq!(rt; found, (Ended::Closed, 1, true));
     Ok(())
 }
@@ -292,34 +270,26 @@ fn is_first_job(jobs: &JobList, message: &[u8]) -> bool {
 }
 
 /// How a link of an extension host ends that brings this frame, and whether its job is what stands behind the header.
-fn host_frame(rt: &impl Abort, alloc: Global, frame: &[u8]) -> Result<(Ended, bool), Fail> {
+fn host_frame(alloc: Global, frame: &[u8]) -> Result<(Ended, bool), Fail> {
     let mut hub = hub_with(alloc, Vec::new(alloc))?;
     let bytes = client(alloc, HOST, frame)?;
-    let mut link = link_of(rt, alloc, &bytes, 0, Vec::new(alloc))?;
-    let mut around = make_around(rt, alloc)?;
-    let end = serve(alloc, &mut hub, &mut link, &mut around, 100);
-    Ok((
-        end,
-        frame.len() > 13 && is_first_job(&around.jobs, &frame[13..]),
-    ))
+    let mut link = link_of(alloc, &bytes, 0, Vec::new(alloc))?;
+    let mut around = make_around(alloc)?;
+    let end = serve(&mut hub, &mut link, &mut around, 100);
+    let is_job = frame.len() > 13 && is_first_job(&around.jobs, &frame[13..]);
+    Ok((end, is_job))
 }
 
 #[test]
 fn a_large_message_is_a_job(rt: HostRuntime) -> Result<(), Fail> {
     let frame = large(rt.alloc())?;
-    assert_eq!(rt; host_frame(&rt, rt.alloc(), &frame)?, (Ended::Closed, true));
+    assert_eq!(rt; host_frame(rt.alloc(), &frame)?, (Ended::Closed, true));
     Ok(())
 }
 
 /// How a link ends whose bytes are cut here, how many jobs it gives, and whether just these bytes are sent.
-fn cut_at(
-    rt: &impl Abort,
-    alloc: Global,
-    bytes: &[u8],
-    cut: usize,
-    all: &[u8],
-) -> Result<(Ended, usize, bool), Fail> {
-    let Outcome { end, sent, jobs } = run(rt, alloc, bytes, cut, 100)?;
+fn cut_at(alloc: Global, bytes: &[u8], cut: usize, all: &[u8]) -> Found {
+    let Outcome { end, sent, jobs } = run(alloc, bytes, cut, 100)?;
     Ok((end, jobs, sent.as_slice() == all))
 }
 
@@ -327,39 +297,34 @@ fn cut_at(
 #[test]
 fn every_cut_gives_the_same(rt: HostRuntime) -> Result<(), Fail> {
     let bytes = client(rt.alloc(), SECOND, OPENING)?;
-    let Outcome { sent, jobs, .. } = run(&rt, rt.alloc(), &bytes, 0, 100)?;
+    let Outcome { sent, jobs, .. } = run(rt.alloc(), &bytes, 0, 100)?;
     for cut in 0..bytes.len() {
-        let found = cut_at(&rt, rt.alloc(), &bytes, cut, &sent)?;
+        let found = cut_at(rt.alloc(), &bytes, cut, &sent)?;
         assert_eq!(rt; found, (Ended::Closed, jobs, true), "cut at {cut}");
     }
     Ok(())
 }
 
 /// What a reconnection of the token `t1` comes to, long after.
-fn reconnects_late(
-    rt: &impl Abort,
-    alloc: Global,
-    hub: &mut PlainHub<MemKeeper>,
-) -> Result<Ended, Fail> {
+fn reconnects_late(alloc: Global, hub: &mut ServerHub) -> Result<Ended, Fail> {
     hub.tick(alloc, at(20_000_000));
     let bytes = window(alloc, "t1", true, b"")?;
-    let served = run_on(rt, alloc, hub, &bytes, 0, Vec::new(alloc), 100)?;
+    let served = run_on(alloc, hub, &bytes, 0, Vec::new(alloc), 100)?;
     Ok(served.end)
 }
 
-/// How a link ends of which a call fails, whether a front of these bytes is sent, and how a reconnection ends long after.
+/// How a link ends of which a call fails, how a reconnection ends long after, and whether a front of these bytes was sent.
 fn fails_at(
-    rt: &impl Abort,
     alloc: Global,
     bytes: &[u8],
     call: u64,
     all: &[u8],
-) -> Result<(Ended, bool, Ended), Fail> {
+) -> Result<(Ended, Ended, bool), Fail> {
     let mut hub = hub_with(alloc, Vec::new(alloc))?;
     let failing = Vec::from_array(alloc, [call])?;
-    let Outcome { end, sent, .. } = run_on(rt, alloc, &mut hub, bytes, 300, failing, 100)?;
-    let later = reconnects_late(rt, alloc, &mut hub)?;
-    Ok((end, all.starts_with(sent.as_slice()), later))
+    let Outcome { end, sent, .. } = run_on(alloc, &mut hub, bytes, 300, failing, 100)?;
+    let later = reconnects_late(alloc, &mut hub)?;
+    Ok((end, later, all.starts_with(sent.as_slice())))
 }
 
 /// Whichever call of the link fails, a front of the same is sent. The seat is spent: the session is lost, and over once its grace is
@@ -367,9 +332,9 @@ fn fails_at(
 #[test]
 fn every_call_may_fail(rt: HostRuntime) -> Result<(), Fail> {
     let bytes = client(rt.alloc(), SECOND, OPENING)?;
-    let Outcome { sent, .. } = run(&rt, rt.alloc(), &bytes, 0, 100)?;
+    let Outcome { sent, .. } = run(rt.alloc(), &bytes, 0, 100)?;
     for call in 1..20 {
-        let (end, is_front, later) = fails_at(&rt, rt.alloc(), &bytes, call, &sent)?;
+        let (end, later, is_front) = fails_at(rt.alloc(), &bytes, call, &sent)?;
         assert!(rt; is_front);
         assert!(rt; end == Ended::LinkFault || end == Ended::Closed);
         assert!(rt;
@@ -381,16 +346,16 @@ fn every_call_may_fail(rt: HostRuntime) -> Result<(), Fail> {
 }
 
 /// How a link ends after so many turns, and whether nothing is sent.
-fn turns(rt: &impl Abort, alloc: Global, turns: u64) -> Result<(Ended, bool), Fail> {
+fn turns(alloc: Global, turns: u64) -> Result<(Ended, bool), Fail> {
     let bytes = client(alloc, SECOND, OPENING)?;
-    let Outcome { end, sent, .. } = run(rt, alloc, &bytes, 0, turns)?;
+    let Outcome { end, sent, .. } = run(alloc, &bytes, 0, turns)?;
     Ok((end, sent.is_empty()))
 }
 
 #[test]
 fn no_turn_asks_nothing_of_the_link(rt: HostRuntime) -> Result<(), Fail> {
-    assert_eq!(rt; turns(&rt, rt.alloc(), 0)?, (Ended::TurnsSpent, true));
-    let (end, _) = turns(&rt, rt.alloc(), 1)?;
+    assert_eq!(rt; turns(rt.alloc(), 0)?, (Ended::TurnsSpent, true));
+    let (end, _) = turns(rt.alloc(), 1)?;
     assert_eq!(rt; end, Ended::TurnsSpent);
     Ok(())
 }
@@ -405,17 +370,17 @@ const BEHIND: [(&[u8], Ended); 5] = [
 ];
 
 /// How a link ends that brings these frames behind its opening, and how many jobs it gives.
-fn behind(rt: &impl Abort, alloc: Global, frames: &[u8]) -> Result<(Ended, usize), Fail> {
+fn behind(alloc: Global, frames: &[u8]) -> Result<(Ended, usize), Fail> {
     let mut bytes = client(alloc, SECOND, OPENING)?;
     bytes.extend_from_slice(frames)?;
-    let Outcome { end, jobs, .. } = run(rt, alloc, &bytes, 0, 100)?;
+    let Outcome { end, jobs, .. } = run(alloc, &bytes, 0, 100)?;
     Ok((end, jobs))
 }
 
 #[test]
 fn what_comes_may_end_a_link(rt: HostRuntime) -> Result<(), Fail> {
     for (frames, end) in BEHIND {
-        assert_eq!(rt; behind(&rt, rt.alloc(), frames)?, (end, 1));
+        assert_eq!(rt; behind(rt.alloc(), frames)?, (end, 1));
     }
     Ok(())
 }
@@ -433,16 +398,16 @@ const REFUSED: [(&[u8], Reason); 4] = [
 ];
 
 /// How a link ends whose first body is this one, and whether an error is sent.
-fn first_body(rt: &impl Abort, alloc: Global, body: &[u8]) -> Result<(Ended, usize, bool), Fail> {
+fn first_body(alloc: Global, body: &[u8]) -> Found {
     let mut bytes = head(alloc, "t1", false, true)?;
     append_control(&mut bytes, body)?;
-    comes_to(rt, alloc, &bytes, SWITCHING, br#","type":"error"}"#)
+    comes_to(alloc, &bytes, SWITCHING, br#","type":"error"}"#)
 }
 
 #[test]
 fn first_bodies_may_be_refused(rt: HostRuntime) -> Result<(), Fail> {
     for (body, reason) in REFUSED {
-        let found = first_body(&rt, rt.alloc(), body)?;
+        let found = first_body(rt.alloc(), body)?;
         assert_eq!(rt; found, (Ended::Refused(reason), 0, true));
     }
     Ok(())
@@ -460,25 +425,25 @@ const SIGNED: &[u8] = b"Sec-WebSocket-Accept: s3pPLMBiTxaQ9kYGzzhZRbK+xOo=\r\n\r
 
 #[test]
 fn heads_are_answered(rt: HostRuntime) -> Result<(), Fail> {
-    let served = comes_to(&rt, rt.alloc(), HEAD, SWITCHING, SIGNED)?;
+    let served = comes_to(rt.alloc(), HEAD, SWITCHING, SIGNED)?;
     assert_eq!(rt; served, (Ended::Closed, 0, true));
-    let refused = comes_to(&rt, rt.alloc(), NO_KEY, b"HTTP/1.1 400 ", b"")?;
+    let refused = comes_to(rt.alloc(), NO_KEY, b"HTTP/1.1 400 ", b"")?;
     assert_eq!(rt; refused, (Ended::BadHead(HeadFault::NoKey), 0, true));
     Ok(())
 }
 
 /// What the link of a window comes to where the keeper fails at its second call.
-fn not_kept(rt: &impl Abort, alloc: Global) -> Result<Outcome, Fail> {
+fn not_kept(alloc: Global) -> Result<Outcome, Fail> {
     let failing = Vec::from_array(alloc, [2u64])?;
     let mut hub = hub_with(alloc, failing)?;
     let bytes = client(alloc, SECOND, OPENING)?;
-    run_on(rt, alloc, &mut hub, &bytes, 0, Vec::new(alloc), 100)
+    run_on(alloc, &mut hub, &bytes, 0, Vec::new(alloc), 100)
 }
 
 /// Where the record of an acceptance is not kept, nothing is sent behind the server's own challenge.
 #[test]
 fn an_acceptance_is_kept_before_it_is_sent(rt: HostRuntime) -> Result<(), Fail> {
-    let Outcome { end, sent, jobs } = not_kept(&rt, rt.alloc())?;
+    let Outcome { end, sent, jobs } = not_kept(rt.alloc())?;
     let is_last = sent.ends_with(br#","type":"sign"}"#.as_slice());
     assert_eq!(rt; (end, jobs, is_last), (Ended::KeepFault, 0, true));
     Ok(())

@@ -1,7 +1,8 @@
 //! Hubs: sessions that outlive their links and stay apart, how they end, what their keeper keeps, and the jobs of a list.
-ghost use Rattle.std.specs.Prelude.{◌≡◌, ◌≢◌, ◌<◌, Some, IfOk};
+ghost use Rattle.std.specs.Prelude.{◌≡◌, ◌≢◌, ◌<◌, Some, All, IfOk};
 ghost use Rattle.ra_base.specs.declared.kind.Kind.TheVariants as kinds;
 ghost use Rattle.ra_session.specs.View.{TellFits};
+ghost use Rattle.ra_keep.specs.Causes.{IsOfNoTunnel};
 
 use crate::fixtures::{BAD, CLIENT_3, OPENING, SERVER_1, at};
 use ra_base::{Cause, Key, Kind, Message, Reason, Request, Seat, Token};
@@ -367,7 +368,9 @@ fn starts_again(hub: &mut PlainHub<MemKeeper>, alloc: Global) -> Result<bool, Fa
 }
 
 /// The records of the keeper.
-fn records(alloc: Global, hub: PlainHub<MemKeeper>) -> Result<Vec<Record>, Fail> {
+fn records(alloc: Global, hub: PlainHub<MemKeeper>) -> Result<Vec<Record>, Fail>
+    ensures { IfOk result (λ records. All IsOfNoTunnel records.items) }
+{
     Ok(hub.into_keeper().all(alloc).ok().ok_or("not told")?)
 }
 
@@ -378,7 +381,9 @@ fn are_kept(records: &[Record]) -> bool {
 }
 
 /// A hub that starts with these records.
-fn again(alloc: Global, kept: Vec<Record>) -> Result<PlainHub<MemKeeper>, Fail> {
+fn again(alloc: Global, kept: Vec<Record>) -> Result<PlainHub<MemKeeper>, Fail>
+    requires { All IsOfNoTunnel kept.items }
+{
     let keeper = MemKeeper::with(kept, Vec::new(alloc));
     Ok(
         PlainHub::start(alloc, keeper, LONG, SHORT)

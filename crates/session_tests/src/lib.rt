@@ -12,6 +12,8 @@ mod hubs;
 #[cfg(test)]
 mod packets;
 #[cfg(test)]
+mod session_acts;
+#[cfg(test)]
 mod sessions;
 #[cfg(test)]
 mod tools;
