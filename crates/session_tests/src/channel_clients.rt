@@ -67,39 +67,33 @@ fn listen_in_vain(alloc: Global, client: &mut ChannelClient) -> Result<(u8, i32)
 }
 
 /// A cancel or a dispose that goes out: C or D.
-fn ended(packet: &Option<Packet>) -> (u8, i32) {
+fn ended(packet: Option<Packet>) -> (u8, i32) {
     match packet {
-        Some(Packet::PromiseCancel { id }) => (b'C', *id),
-        Some(Packet::EventDispose { id }) => (b'D', *id),
+        Some(Packet::PromiseCancel { id }) => (b'C', id),
+        Some(Packet::EventDispose { id }) => (b'D', id),
         Some(_) => (b'?', 0),
         None => (WAITS, 0),
     }
 }
 
 fn cancel(client: &mut ChannelClient, id: i32) -> Result<(u8, i32), ClientFault> {
-    match client.cancel(id) {
-        Ok(packet) => Ok(ended(&packet)),
-        Err(fault) => Err(fault),
-    }
+    client.cancel(id).map(ended)
 }
 
 fn dispose(client: &mut ChannelClient, id: i32) -> Result<(u8, i32), ClientFault> {
-    match client.dispose(id) {
-        Ok(packet) => Ok(ended(&packet)),
-        Err(fault) => Err(fault),
-    }
+    client.dispose(id).map(ended)
 }
 
 /// What was heard: R with the number of requests, S, E and F with the id, I.
-fn heard(heard: &Heard) -> (u8, i32) {
+fn heard(heard: Heard) -> (u8, i32) {
     match heard {
         Heard::Ready { packets } => (b'R', if packets.is_empty() { 0 } else { 1 }),
         Heard::Settled {
             id,
             answer: Answer::Success { .. },
-        } => (b'S', *id),
-        Heard::Settled { id, .. } => (b'E', *id),
-        Heard::Fired { id, .. } => (b'F', *id),
+        } => (b'S', id),
+        Heard::Settled { id, .. } => (b'E', id),
+        Heard::Fired { id, .. } => (b'F', id),
         Heard::Ignored => (b'I', 0),
     }
 }
@@ -109,10 +103,7 @@ fn hear(
     client: &mut ChannelClient,
     packet: Packet,
 ) -> Result<(u8, i32), ClientFault> {
-    match client.on_packet(alloc, packet) {
-        Ok(found) => Ok(heard(&found)),
-        Err(fault) => Err(fault),
-    }
+    client.on_packet(alloc, packet).map(heard)
 }
 
 /// What comes of an act.

@@ -93,10 +93,7 @@ fn turn<H: Hub>(hub: &mut H, alloc: Global, seat: &Seat, piece: &[u8]) -> Result
 
 /// Whether a turn writes these bytes.
 fn writes(turn: Result<Turn, HubFault>, bytes: &[u8]) -> bool {
-    match turn {
-        Ok(turn) => turn.out.as_slice() == bytes,
-        Err(_) => false,
-    }
+    turn.is_ok_and(|turn| turn.out.as_slice() == bytes)
 }
 
 /// Whether the peer calls the call with this id.
@@ -196,14 +193,17 @@ fn sessions_outlive_their_links_and_stay_apart(rt: HostRuntime) -> Result<(), Fa
     Ok(())
 }
 
+/// Whether link 2 is the present one.
+fn is_second(fault: SessionFault) -> bool {
+    matches!(fault, SessionFault::Stale { current: 2 })
+}
+
 /// Whether a turn is refused since another link is the present one, the second.
-fn is_stale(turn: &Result<Turn, HubFault>) -> bool {
-    matches!(
-        turn,
-        Err(HubFault::Session {
-            fault: SessionFault::Stale { current: 2 },
-        })
-    )
+fn is_stale(turn: Result<Turn, HubFault>) -> bool {
+    match turn {
+        Err(HubFault::Session { fault }) => is_second(fault),
+        Ok(_) | Err(_) => false,
+    }
 }
 
 /// Link 2 begins, and link 1 is the present one no more.
@@ -211,8 +211,8 @@ fn old_link_is_stale<H: Hub>(hub: &mut H, alloc: Global) -> Result<bool, Fail> {
     let first = admit(hub, alloc, "t1", false, 0)?;
     let second = admit(hub, alloc, "t1", true, 0)?;
     let attached = attach(hub, alloc, &second);
-    let stale = turn(hub, alloc, &first, OPENING);
-    Ok(attached && is_stale(&stale))
+    let stale = is_stale(turn(hub, alloc, &first, OPENING));
+    Ok(attached && stale)
 }
 
 #[test]
@@ -223,13 +223,13 @@ fn an_old_link_is_stale(rt: HostRuntime) -> Result<(), Fail> {
 }
 
 /// Whether the session has no call of this id.
-fn is_no_call(told: &Result<(), HubFault>, wanted: i32) -> bool {
+fn is_no_call(told: Result<(), HubFault>, wanted: i32) -> bool {
     match told {
         Err(
             HubFault::Session {
                 fault: SessionFault::NoSuchCall { id },
             },
-        ) => *id == wanted,
+        ) => id == wanted,
         Ok(()) | Err(_) => false,
     }
 }
@@ -238,8 +238,8 @@ fn is_no_call(told: &Result<(), HubFault>, wanted: i32) -> bool {
 fn no_such_call<H: Hub>(hub: &mut H, alloc: Global) -> Result<bool, Fail> {
     let missed = matches!(answer(hub, alloc, "t1", 5), Err(HubFault::NoSession));
     admit(hub, alloc, "t1", false, 0)?;
-    let told = answer(hub, alloc, "t1", 5);
-    Ok(missed && is_no_call(&told, 5))
+    let refused = is_no_call(answer(hub, alloc, "t1", 5), 5);
+    Ok(missed && refused)
 }
 
 #[test]
@@ -287,27 +287,30 @@ const ONE: Swept = Swept {
 fn sessions_end(rt: HostRuntime) -> Result<(), Fail> {
     let mut hub = PlainHub::new(rt.alloc(), LONG, SHORT);
     assert!(rt; closed(&mut hub, rt.alloc())?);
-    assert_eq!(rt; expires(&mut hub, rt.alloc())?, (NONE, ONE));
+    assert!(rt; expires(&mut hub, rt.alloc())? == (NONE, ONE));
     assert!(rt; cause(&mut hub, rt.alloc(), "t2") == Some(Cause::GraceOver));
     Ok(())
 }
 
+/// Whether what was heard is no packet.
+fn is_bad_ipc(fault: SessionFault) -> bool {
+    matches!(fault, SessionFault::BadIpc { .. })
+}
+
 /// Whether a turn is refused since its message is no packet.
-fn is_bad(turn: &Result<Turn, HubFault>) -> bool {
-    matches!(
-        turn,
-        Err(HubFault::Session {
-            fault: SessionFault::BadIpc { .. },
-        })
-    )
+fn is_bad(turn: Result<Turn, HubFault>) -> bool {
+    match turn {
+        Err(HubFault::Session { fault }) => is_bad_ipc(fault),
+        Ok(_) | Err(_) => false,
+    }
 }
 
 /// A message that is no packet ends its session.
 fn spoiled<H: Hub>(hub: &mut H, alloc: Global) -> Result<bool, Fail> {
     let seat = admit(hub, alloc, "t1", false, 0)?;
     attach(hub, alloc, &seat);
-    let bad = turn(hub, alloc, &seat, BAD);
-    Ok(is_bad(&bad))
+    let bad = is_bad(turn(hub, alloc, &seat, BAD));
+    Ok(bad)
 }
 
 #[test]
@@ -392,14 +395,30 @@ fn again(alloc: Global, kept: Vec<Record>) -> Result<PlainHub<MemKeeper>, Fail>
     )
 }
 
+/// The records of a hub whose second request was not kept.
+fn first_run(alloc: Global) -> Result<Vec<Record>, Fail>
+    ensures { IfOk result (λ records. All IsOfNoTunnel records.items) }
+{
+    let mut hub = failing(alloc)?;
+    if second_is_not_kept(&mut hub, alloc)? {
+        records(alloc, hub)
+    } else {
+        Err("answered".into())
+    }
+}
+
+fn second_run(alloc: Global, kept: Vec<Record>) -> Result<bool, Fail>
+    requires { All IsOfNoTunnel kept.items }
+{
+    let mut hub = again(alloc, kept)?;
+    starts_again(&mut hub, alloc)
+}
+
 #[test]
 fn an_acceptance_is_kept_before_it_is_answered(rt: HostRuntime) -> Result<(), Fail> {
-    let mut hub = failing(rt.alloc())?;
-    assert!(rt; second_is_not_kept(&mut hub, rt.alloc())?);
-    let kept = records(rt.alloc(), hub)?;
+    let kept = first_run(rt.alloc())?;
     assert!(rt; are_kept(kept.as_slice()));
-    let mut again = again(rt.alloc(), kept)?;
-    assert!(rt; starts_again(&mut again, rt.alloc())?);
+    assert!(rt; second_run(rt.alloc(), kept)?);
     Ok(())
 }
 

@@ -42,17 +42,17 @@ fn a_wrong_body_value(rt: HostRuntime) {
 }
 
 /// The packet is written as these bytes again.
-fn is_written_as(alloc: Global, packet: &Packet, bytes: &[u8]) -> bool
-    requires { MessageFits (message packet.now) }
+fn is_written_as(alloc: Global, packet: Packet, bytes: &[u8]) -> bool
+    requires { MessageFits (message packet) }
 {
     let mut out = Vec::new(alloc);
-    encode(alloc, packet, &mut out).is_ok() && out.as_slice() == bytes
+    encode(alloc, &packet, &mut out).is_ok() && out.as_slice() == bytes
 }
 
 /// Whether the bytes are a packet that is written again as these bytes.
 fn comes_back(alloc: Global, bytes: &[u8]) -> bool {
     match decode(alloc, bytes) {
-        Ok(packet) => is_written_as(alloc, &packet, bytes),
+        Ok(packet) => is_written_as(alloc, packet, bytes),
         Err(_) => false,
     }
 }
@@ -96,17 +96,15 @@ fn is_echo(packet: &Packet) -> bool {
     *id == 7 && named && is_text(arg, "hi")
 }
 
-/// Whether a copy of the packet is a request, and the call 7 of `echo`.
-fn copy_is_echo(alloc: Global, packet: &Packet) -> bool {
-    match packet.copy(alloc) {
-        Ok(copy) => copy.is_request() && is_echo(&copy),
-        Err(_) => false,
-    }
+/// Whether the packet is a request, and the call 7 of `echo`.
+fn is_request(packet: Packet) -> bool {
+    packet.is_request() && is_echo(&packet)
 }
 
+/// Whether a copy of the packet that the bytes are is such a call.
 fn is_call(alloc: Global, bytes: &[u8]) -> bool {
     match decode(alloc, bytes) {
-        Ok(packet) => copy_is_echo(alloc, &packet),
+        Ok(packet) => packet.copy(alloc).is_ok_and(is_request),
         Err(_) => false,
     }
 }
