@@ -1,7 +1,7 @@
 //! Sessions: a window and its server over two links, byte by byte, and what a session refuses.
 use crate::fixtures::{BAD, CLIENT_3, OPENING, SERVER_1};
 use crate::session_acts::{Act, NOTHING, Row, attach, in_served, in_window};
-use ra_base::{Kind, Moment};
+use ra_base::{Kind, Message, Moment};
 use ra_session::{Happened, Role, Session, SessionFault, Turn, Work};
 use ra_values::NoMemory;
 use std::alloc::Global;
@@ -219,10 +219,14 @@ fn large(alloc: Global) -> Result<Vec<u8>, NoMemory> {
     Ok(bytes)
 }
 
+fn is_same(body: &Message, bytes: &[u8]) -> bool {
+    body.as_slice() == bytes
+}
+
 /// Whether an extension host said these bytes.
 fn is_said(work: &Work, bytes: &[u8]) -> bool {
     match work {
-        Work::Host { body } => body.as_slice() == bytes,
+        Work::Host { body } => is_same(body, bytes),
         Work::Call { .. } => false,
     }
 }
