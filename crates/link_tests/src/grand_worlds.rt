@@ -1,30 +1,19 @@
-ghost use Rattle.std.specs.Prelude.{◌≡◌, IfOk};
-ghost use Rattle.ra_base.specs.declared.kind.Kind.TheVariants.{Management};
-
-use ra_base::{Key, Kind, Token};
-use ra_grand::{GrandFault, GrandRunFault, GrandWorld, run_grand};
+//! Grand worlds: a run of a hub, a client and its links.
+use crate::fixtures::key;
+use ra_grand::{GrandFault, GrandRunFault, run_grand};
 use ra_script::GrandEvent;
 use std::alloc::Global;
 use std::test::Fail;
 
-/// A management session's name.
-fn key() -> Result<Key, Fail>
-    ensures { IfOk result (λ key. key.kind ≡ Management) }
-{
-    Ok(Key {
-        kind: Kind::Management,
-        token: Token::from_text("t1")?,
-    })
-}
-
-/// A client, and the first link of its dialer.
-fn link_once(alloc: Global) -> Result<GrandWorld, Fail> {
+/// How many clients, links and jobs there are behind a client's first link.
+fn link_once(alloc: Global) -> Result<(u64, u64, u64), Fail> {
     let events = [
         GrandEvent::Client { key: key()? },
         GrandEvent::Step { client: 1 },
         GrandEvent::Linked { client: 1 },
     ];
-    Ok(run_grand(alloc, &events)?)
+    let world = run_grand(alloc, &events)?;
+    Ok((world.clients(), world.links(), world.jobs()))
 }
 
 /// The same, and a second link while the first attempt goes on.
@@ -40,10 +29,8 @@ fn link_twice(alloc: Global) -> Result<Option<GrandRunFault>, Fail> {
 
 #[test]
 fn a_run_has_all_its_events(rt: HostRuntime) -> Result<(), Fail> {
-    let world = link_once(rt.alloc())?;
-    assert!(rt; world.clients() == 1);
-    assert!(rt; world.links() == 1);
-    assert!(rt; world.jobs() == 0);
+    let found = link_once(rt.alloc())?;
+    assert!(rt; found == (1, 1, 0));
     Ok(())
 }
 

@@ -1,39 +1,25 @@
 //! A window's session over two links, by a core that is given its bytes piece by piece.
-ghost use Rattle.std.specs.Prelude.{IfOk};
+ghost use Rattle.std.specs.Prelude.{Some, IfOk};
 ghost use Rattle.ra_values.specs.Spelling.{Fits, levels};
 ghost use Rattle.ra_values.specs.View.{tree};
-ghost use Rattle.ra_session.specs.View.{TellFits};
+ghost use Rattle.ra_session.specs.View.{FireFits, TellFits};
 ghost use Rattle.ra_link_core.specs.Cores.{seat_in};
 ghost use Rattle.ra_link_core.specs.Makes.{Holds};
 
-use ra_base::{Key, Kind, Message, Moment, NoMemory, Token};
+use crate::fixtures::{
+    ACK_2, Around, FIRST, GREETING, SECOND, SERVER_1, append_control, at, head, key, make_around,
+};
+use ra_base::NoMemory;
 use ra_chan_server::Fire;
-use ra_frame::append_written;
-use ra_hub::{Hub, JobList, PlainHub};
+use ra_hub::{Hub, PlainHub};
 use ra_ipc::Answer;
-use ra_link::{LinkCore, Settings};
-use ra_ports::MemEntropy;
+use ra_link::LinkCore;
 use ra_session::Tell;
-use ra_shake::ShakeSettings;
-use ra_sign::Keyed;
-use ra_upgrade::request;
 use ra_values::{Text, Value};
 use std::alloc::Global;
-use std::process::Abort;
 use std::test::Fail;
 
-const FIRST: &[u8] = br#"{"auth":"s3","data":"c","type":"auth"}"#;
-
-const SECOND: &[u8] =
-    br#"{"commit":"","desiredConnectionType":1,"signedData":"s3","type":"connectionType"}"#;
-
 const OK: &[u8] = br#"{"type":"ok"}"#;
-
-/// Client messages 1 and 2: the context `window`, and Initialize.
-const OPENING: &[u8] =
-    b"\x01\0\0\0\x01\0\0\0\0\0\0\0\x08\x01\x06window\x01\0\0\0\x02\0\0\0\0\0\0\0\x06\x04\x01\x06\xc8\x01\0";
-
-const SERVER_1: &[u8] = b"\x01\0\0\0\x01\0\0\0\x01\0\0\0\x06\x04\x01\x06\xc8\x01\0";
 
 const CLIENT_3: &[u8] =
     b"\x01\0\0\0\x03\0\0\0\x01\0\0\0\x17\x04\x04\x06\x64\x06\0\x01\x05tools\x01\x04echo\x01\x02hi";
@@ -42,8 +28,6 @@ const SERVER_2: &[u8] = b"\x01\0\0\0\x02\0\0\0\x03\0\0\0\x0b\x04\x02\x06\xc9\x01
 
 const CLIENT_4: &[u8] =
     b"\x01\0\0\0\x04\0\0\0\x01\0\0\0\x14\x04\x04\x06\x66\x06\x01\x01\x05tools\x01\x04said\0";
-
-const ACK_2: &[u8] = b"\x03\0\0\0\0\0\0\0\x02\0\0\0\0";
 
 const ACK_4: &[u8] = b"\x03\0\0\0\0\0\0\0\x04\0\0\0\0";
 
@@ -60,67 +44,17 @@ const CLIENT_6: &[u8] =
 const SERVER_4_5: &[u8] =
     b"\x01\0\0\0\x04\0\0\0\x06\0\0\0\x0b\x04\x02\x06\xcc\x01\x06\x01\x01\x02hi\x01\0\0\0\x05\0\0\0\x06\0\0\0\x08\x04\x02\x06\xc9\x01\x06\x03\0";
 
-/// What a core is given beside its hub.
-#[derive(Drop)]
-struct Around {
-    jobs: JobList,
-    entropy: MemEntropy,
-    signer: Keyed,
-    settings: Settings,
-}
-
-fn make_around(rt: &impl Abort, alloc: Global) -> Result<Around, Fail> {
-    let draws = Vec::from_array(alloc, [[7u8; 16]])?;
-    assert!(rt; !draws.is_empty());
-    Ok(Around {
-        jobs: JobList::new(alloc),
-        entropy: MemEntropy::new(draws),
-        signer: Keyed::new(Message::copy(alloc, b"key")?),
-        settings: Settings {
-            shake: ShakeSettings {
-                secret: Some(Message::copy(alloc, b"s3")?),
-                commit: Message::empty(alloc),
-            },
-        },
-    })
-}
-
-fn at(millis: u64) -> Moment {
-    match Moment::of_millis(millis) {
-        Some(moment) => moment,
-        None => Moment::start(),
-    }
-}
-
 /// What is written for a piece, where the link goes on.
-fn feed<H: Hub>(
-    alloc: Global,
-    core: &mut LinkCore,
-    hub: &mut H,
-    around: &mut Around,
-    piece: &[u8],
-    millis: u64,
-) -> Vec<u8>
+fn feed<H: Hub>(core: &mut LinkCore, hub: &mut H, around: &mut Around, piece: &[u8]) -> Vec<u8>
     requires { Holds (H.seats hub.old) (seat_in core.old) }
     ensures { Holds (H.seats hub.new) (seat_in core.new) }
 {
-    let Around {
-        jobs,
-        entropy,
-        signer,
-        settings,
-    } = around;
+    let (alloc, now) = (around.alloc, around.now);
+    let (jobs, entropy) = (&mut around.jobs, &mut around.entropy);
+    let (signer, settings) = (&around.signer, &around.settings);
     let mut out = Vec::new(alloc);
     let end = core.piece(
-        alloc,
-        hub,
-        jobs,
-        entropy,
-        signer,
-        settings,
-        piece,
-        at(millis),
-        &mut out,
+        alloc, hub, jobs, entropy, signer, settings, piece, now, &mut out,
     );
     if end.is_some() {
         out.clear();
@@ -130,18 +64,16 @@ fn feed<H: Hub>(
 
 /// These bytes are written for a piece.
 fn says<H: Hub>(
-    alloc: Global,
     core: &mut LinkCore,
     hub: &mut H,
     around: &mut Around,
     piece: &[u8],
-    millis: u64,
     bytes: &[u8],
 ) -> bool
     requires { Holds (H.seats hub.old) (seat_in core.old) }
     ensures { Holds (H.seats hub.new) (seat_in core.new) }
 {
-    let out = feed(alloc, core, hub, around, piece, millis);
+    let out = feed(core, hub, around, piece);
     out.as_slice() == bytes
 }
 
@@ -153,163 +85,135 @@ fn hi(alloc: Global) -> Result<Value, Fail>
     Ok(Value::Text { text })
 }
 
+/// The event `said` of `hi`.
+fn said(alloc: Global) -> Result<Fire, Fail>
+    ensures { IfOk result (λ fire. FireFits (Some fire)) }
+{
+    Ok(Fire {
+        channel: Text::of(alloc, "tools")?,
+        event: Text::of(alloc, "said")?,
+        body: hi(alloc)?,
+    })
+}
+
+fn answer(id: i32, body: Value, fire: Option<Fire>) -> Tell
+    requires body { Fits levels (tree body) }
+    requires fire { FireFits fire }
+    ensures { TellFits result }
+{
+    let answer = Answer::Success { body };
+    Tell::Answer { id, answer, fire }
+}
+
 /// The answer to `echo`, to `length` and to `say`, by the id of the call.
 fn answer_to(alloc: Global, id: i32) -> Result<Tell, Fail>
     ensures { IfOk result TellFits }
 {
-    if id == 0 {
-        let body = hi(alloc)?;
-        return Ok(Tell::Answer {
-            id,
-            answer: Answer::Success { body },
-            fire: None,
-        });
+    match id {
+        0 => Ok(answer(id, hi(alloc)?, None)),
+        2 => Ok(answer(id, Value::Int { n: 2 }, None)),
+        _ => Ok(answer(id, Value::Undefined, Some(said(alloc)?))),
     }
-    if id == 2 {
-        return Ok(Tell::Answer {
-            id,
-            answer: Answer::Success {
-                body: Value::Int { n: 2 },
-            },
-            fire: None,
-        });
-    }
-    let fire = Fire {
-        channel: Text::of(alloc, "tools")?,
-        event: Text::of(alloc, "said")?,
-        body: hi(alloc)?,
-    };
-    Ok(Tell::Answer {
-        id,
-        answer: Answer::Success {
-            body: Value::Undefined,
-        },
-        fire: Some(fire),
-    })
 }
 
 /// The call with this id is answered.
-#[tactic(auto, using(ra_link_core::proofs::SeatLemmas::holds_stay))]
-fn tell<H: Hub>(
-    alloc: Global,
-    core: &LinkCore,
-    hub: &mut H,
-    id: i32,
-    millis: u64,
-) -> Result<bool, Fail>
+#[tactic(auto, using(ra_link::proofs::SeatLemmas::holds_stay))]
+fn tell<H: Hub>(core: &LinkCore, hub: &mut H, around: &Around, id: i32) -> Result<bool, Fail>
     requires { Holds (H.seats hub.old) (seat_in core.now) }
     ensures { Holds (H.seats hub.new) (seat_in core.now) }
 {
-    let key = Key {
-        kind: Kind::Management,
-        token: Token::from_text("t1")?,
-    };
-    let tell = answer_to(alloc, id)?;
-    Ok(hub.tell(alloc, &key, tell, at(millis)).is_ok())
+    let key = key()?;
+    let tell = answer_to(around.alloc, id)?;
+    Ok(hub.tell(around.alloc, &key, tell, around.now).is_ok())
 }
 
-/// A tick at this moment.
-#[tactic(auto, using(ra_link_core::proofs::SeatLemmas::holds_stay))]
-fn tick<H: Hub>(alloc: Global, core: &LinkCore, hub: &mut H, millis: u64)
+/// A tick.
+#[tactic(auto, using(ra_link::proofs::SeatLemmas::holds_stay))]
+fn tick<H: Hub>(core: &LinkCore, hub: &mut H, around: &Around)
     requires { Holds (H.seats hub.old) (seat_in core.now) }
     ensures { Holds (H.seats hub.new) (seat_in core.now) }
 {
-    hub.tick(alloc, at(millis));
+    hub.tick(around.alloc, around.now);
 }
 
+/// A short body as the bytes of a control frame.
 fn control(alloc: Global, body: &[u8]) -> Result<Vec<u8>, NoMemory> {
     let mut bytes = Vec::new(alloc);
-    if body.len() > 1000 {
-        return Err(NoMemory);
-    }
-    append_written(&mut bytes, 2, 0, 0, body)?;
+    append_control(&mut bytes, body)?;
     Ok(bytes)
 }
 
-/// The handshake of a link, and what is written for its second message.
-fn shake<H: Hub>(
-    alloc: Global,
+/// Whether these bytes end what is written for the second message of the handshake.
+fn is_accepted<H: Hub>(
     core: &mut LinkCore,
     hub: &mut H,
     around: &mut Around,
     reconnection: bool,
-    millis: u64,
-) -> Result<Vec<u8>, Fail>
-    requires { Holds (H.seats hub.old) (seat_in core.old) }
-    ensures { Holds (H.seats hub.new) (seat_in core.new) }
-{
-    let token = Token::from_text("t1")?;
-    let head = request(alloc, "localhost", &token, reconnection, true, [1; 16])?;
-    let first = control(alloc, FIRST)?;
-    let second = control(alloc, SECOND)?;
-    feed(alloc, core, hub, around, head.as_slice(), millis);
-    feed(alloc, core, hub, around, &first, millis);
-    Ok(feed(alloc, core, hub, around, &second, millis))
-}
-
-/// The first link, up to the acknowledgement of the listen.
-fn first_steps<H: Hub>(
-    alloc: Global,
-    core: &mut LinkCore,
-    hub: &mut H,
-    around: &mut Around,
+    bytes: &[u8],
 ) -> Result<bool, Fail>
     requires { Holds (H.seats hub.old) (seat_in core.old) }
     ensures { Holds (H.seats hub.new) (seat_in core.new) }
 {
-    let accepted = shake(alloc, core, hub, around, false, 0)?.ends_with(OK);
-    let greeted = says(alloc, core, hub, around, OPENING, 0, SERVER_1);
-    let called = says(alloc, core, hub, around, CLIENT_3, 0, &[]);
-    let told = tell(alloc, core, hub, 0, 0)?;
-    let answered = says(alloc, core, hub, around, &[], 0, SERVER_2);
-    let listened = says(alloc, core, hub, around, CLIENT_4, 0, &[]);
-    tick(alloc, core, hub, 2_005);
-    let acknowledged = says(alloc, core, hub, around, ACK_2, 2_005, ACK_4);
+    let head = head(around.alloc, "t1", reconnection, true)?;
+    let first = control(around.alloc, FIRST)?;
+    let second = control(around.alloc, SECOND)?;
+    feed(core, hub, around, &head);
+    feed(core, hub, around, &first);
+    Ok(feed(core, hub, around, &second).ends_with(bytes))
+}
+
+/// The first link, up to the acknowledgement of the listen.
+fn first<H: Hub>(core: &mut LinkCore, hub: &mut H, around: &mut Around) -> Result<bool, Fail>
+    requires { Holds (H.seats hub.old) (seat_in core.old) }
+    ensures { Holds (H.seats hub.new) (seat_in core.new) }
+{
+    let accepted = is_accepted(core, hub, around, false, OK)?;
+    let greeted = says(core, hub, around, GREETING, SERVER_1);
+    let called = says(core, hub, around, CLIENT_3, &[]);
+    let told = tell(core, hub, around, 0)?;
+    let answered = says(core, hub, around, &[], SERVER_2);
+    let listened = says(core, hub, around, CLIENT_4, &[]);
+    around.now = at(2_005);
+    tick(core, hub, around);
+    let acknowledged = says(core, hub, around, ACK_2, ACK_4);
     Ok(accepted && greeted && called && told && answered && listened && acknowledged)
 }
 
 /// The second link, up to the event and the last answer.
-fn second_steps<H: Hub>(
-    alloc: Global,
-    core: &mut LinkCore,
-    hub: &mut H,
-    around: &mut Around,
-) -> Result<bool, Fail>
+fn second<H: Hub>(core: &mut LinkCore, hub: &mut H, around: &mut Around) -> Result<bool, Fail>
     requires { Holds (H.seats hub.old) (seat_in core.old) }
     ensures { Holds (H.seats hub.new) (seat_in core.new) }
 {
-    let accepted = shake(alloc, core, hub, around, true, 10_000)?.ends_with(ACK_4);
-    let called = says(alloc, core, hub, around, CLIENT_5, 10_000, &[]);
-    let told = tell(alloc, core, hub, 2, 10_000)?;
-    let answered = says(alloc, core, hub, around, &[], 10_000, SERVER_3);
-    let heard = says(alloc, core, hub, around, CLIENT_6, 10_000, &[]);
-    let said = tell(alloc, core, hub, 3, 10_000)?;
-    let fired = says(alloc, core, hub, around, &[], 10_000, SERVER_4_5);
+    let accepted = is_accepted(core, hub, around, true, ACK_4)?;
+    let called = says(core, hub, around, CLIENT_5, &[]);
+    let told = tell(core, hub, around, 2)?;
+    let answered = says(core, hub, around, &[], SERVER_3);
+    let heard = says(core, hub, around, CLIENT_6, &[]);
+    let said = tell(core, hub, around, 3)?;
+    let fired = says(core, hub, around, &[], SERVER_4_5);
     Ok(accepted && called && told && answered && heard && said && fired)
 }
 
-fn first_link<H: Hub>(alloc: Global, hub: &mut H, around: &mut Around) -> Result<bool, Fail> {
-    let mut core = LinkCore::new(alloc);
-    let done = first_steps(alloc, &mut core, hub, around)?;
-    core.leave(hub, at(10_000));
+fn first_link<H: Hub>(hub: &mut H, around: &mut Around) -> Result<bool, Fail> {
+    let mut core = LinkCore::new(around.alloc);
+    let done = first(&mut core, hub, around)?;
+    around.now = at(10_000);
+    core.leave(hub, around.now);
     Ok(done)
 }
 
-fn second_link<H: Hub>(alloc: Global, hub: &mut H, around: &mut Around) -> Result<bool, Fail> {
-    let mut core = LinkCore::new(alloc);
-    let done = second_steps(alloc, &mut core, hub, around)?;
-    core.leave(hub, at(10_000));
+fn second_link<H: Hub>(hub: &mut H, around: &mut Around) -> Result<bool, Fail> {
+    let mut core = LinkCore::new(around.alloc);
+    let done = second(&mut core, hub, around)?;
+    core.leave(hub, around.now);
     Ok(done)
-}
-
-fn both_links<H: Hub>(rt: &impl Abort, alloc: Global, hub: &mut H) -> Result<bool, Fail> {
-    let mut around = make_around(rt, alloc)?;
-    Ok(first_link(alloc, hub, &mut around)? && second_link(alloc, hub, &mut around)?)
 }
 
 #[test]
 fn a_session_goes_on_over_a_second_link(rt: HostRuntime) -> Result<(), Fail> {
     let mut hub = PlainHub::new(rt.alloc(), 10_800_000, 300_000);
-    assert!(rt; both_links(&rt, rt.alloc(), &mut hub)?);
+    let mut around = make_around(rt.alloc())?;
+    assert!(rt; first_link(&mut hub, &mut around)?);
+    assert!(rt; second_link(&mut hub, &mut around)?);
     Ok(())
 }

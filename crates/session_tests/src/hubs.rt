@@ -1,11 +1,14 @@
-ghost use Rattle.std.specs.Prelude.{◌≡◌, ◌≢◌, ◌<◌, Some, IfOk};
+//! Hubs: sessions that outlive their links and stay apart, how they end, what their keeper keeps, and the jobs of a list.
+ghost use Rattle.std.specs.Prelude.{◌≡◌, ◌≢◌, ◌<◌, Some, All, IfOk};
 ghost use Rattle.ra_base.specs.declared.kind.Kind.TheVariants as kinds;
 ghost use Rattle.ra_session.specs.View.{TellFits};
+ghost use Rattle.ra_keep.specs.Causes.{IsOfNoTunnel};
 
-use ra_base::{Cause, Key, Kind, Message, Moment, Reason, Request, Seat, Token};
+use crate::fixtures::{BAD, CLIENT_3, OPENING, SERVER_1, at};
+use ra_base::{Cause, Key, Kind, Message, Reason, Request, Seat, Token};
 use ra_hub::{Hub, HubFault, Job, JobList, JobSink, PlainHub, Swept};
 use ra_ipc::Answer;
-use ra_keep::{Keeper, MemKeeper};
+use ra_keep::{Keeper, MemKeeper, Record};
 use ra_session::{Happened, SessionFault, Tell, Turn, Work};
 use ra_values::Value;
 use std::alloc::Global;
@@ -15,37 +18,18 @@ const LONG: u64 = 10_800_000;
 
 const SHORT: u64 = 300_000;
 
-/// The context `window` and Initialize, as the frames of a client.
-const OPENING: &[u8] =
-    b"\x01\0\0\0\x01\0\0\0\0\0\0\0\x08\x01\x06window\x01\0\0\0\x02\0\0\0\0\0\0\0\x06\x04\x01\x06\xc8\x01\0";
-
-/// Initialize, as the first message of a server.
-const SERVER_1: &[u8] = b"\x01\0\0\0\x01\0\0\0\x01\0\0\0\x06\x04\x01\x06\xc8\x01\0";
-
-/// The call `echo` of the text `hi`.
-const CLIENT_3: &[u8] =
-    b"\x01\0\0\0\x03\0\0\0\x01\0\0\0\x17\x04\x04\x06\x64\x06\0\x01\x05tools\x01\x04echo\x01\x02hi";
-
 /// After a reconnection: an Ack of 3, and the answer `2` to the call 0, as message 2.
 const ANSWERED: &[u8] =
     b"\x03\0\0\0\0\0\0\0\x03\0\0\0\0\x01\0\0\0\x02\0\0\0\x03\0\0\0\x09\x04\x02\x06\xc9\x01\x06\0\x06\x02";
 
-/// A message that is no context.
-const BAD: &[u8] = b"\x01\0\0\0\x01\0\0\0\0\0\0\0\x02\x06\x80";
-
-fn at(millis: u64) -> Result<Moment, Fail> {
-    Ok(Moment::of_millis(millis).ok_or("no moment")?)
-}
-
-fn token(text: &str) -> Result<Token, Fail> {
-    Ok(Token::from_text(text).ok().ok_or("no token")?)
-}
-
-fn key(text: &str) -> Result<Key, Fail> {
-    Ok(Key {
-        kind: Kind::Management,
-        token: token(text)?,
-    })
+fn key(text: &str) -> Option<Key> {
+    match Token::from_text(text) {
+        Ok(token) => Some(Key {
+            kind: Kind::Management,
+            token,
+        }),
+        Err(_) => None,
+    }
 }
 
 fn ask(text: &str, reconnection: bool) -> Result<Request, Fail>
@@ -53,7 +37,7 @@ fn ask(text: &str, reconnection: bool) -> Result<Request, Fail>
 {
     Ok(Request {
         kind: Some(Kind::Management),
-        token: token(text)?,
+        token: Token::from_text(text)?,
         reconnection,
     })
 }
@@ -71,9 +55,7 @@ fn admit<H: Hub>(
     ensures others { IfOk result (λ seat. (s : Seat) → 0 < H.seats hub.old s → 0 < H.seats hub.new s) }
 {
     let ask = ask(text, reconnection)?;
-    let now = at(millis)?;
-    let seat = hub.admit(alloc, ask, now)?;
-    Ok(seat)
+    Ok(hub.admit(alloc, ask, at(millis))?)
 }
 
 /// Why a request is refused.
@@ -85,8 +67,7 @@ fn refusal<H: Hub>(
     millis: u64,
 ) -> Result<Option<Reason>, Fail> {
     let ask = ask(text, reconnection)?;
-    let now = at(millis)?;
-    match hub.admit(alloc, ask, now) {
+    match hub.admit(alloc, ask, at(millis)) {
         Err(HubFault::Refused { reason }) => Ok(Some(reason)),
         Ok(_) | Err(_) => Ok(None),
     }
@@ -94,35 +75,25 @@ fn refusal<H: Hub>(
 
 /// A link begins.
 #[tactic(auto, using(ra_hub::proofs::SeatLemmas::seat_stays))]
-fn attach<H: Hub>(hub: &mut H, alloc: Global, seat: &Seat, millis: u64) -> Result<bool, Fail>
+fn attach<H: Hub>(hub: &mut H, alloc: Global, seat: &Seat) -> bool
     requires { 0 < H.seats hub.old seat.now }
     ensures { (s : Seat) → 0 < H.seats hub.old s → 0 < H.seats hub.new s }
 {
-    let now = at(millis)?;
-    Ok(hub.attach(alloc, seat, &[], now).is_ok())
+    hub.attach(alloc, seat, &[], at(0)).is_ok()
 }
 
 /// Bytes come, and one frame is applied.
 #[tactic(auto, using(ra_hub::proofs::SeatLemmas::seat_stays))]
-fn turn<H: Hub>(
-    hub: &mut H,
-    alloc: Global,
-    seat: &Seat,
-    piece: &[u8],
-) -> Result<Result<Turn, HubFault>, Fail>
+fn turn<H: Hub>(hub: &mut H, alloc: Global, seat: &Seat, piece: &[u8]) -> Result<Turn, HubFault>
     requires { 0 < H.seats hub.old seat.now }
     ensures { (s : Seat) → 0 < H.seats hub.old s → 0 < H.seats hub.new s }
 {
-    let now = at(0)?;
-    Ok(hub.turn(alloc, seat, piece, now))
+    hub.turn(alloc, seat, piece, at(0))
 }
 
-/// What a turn writes.
+/// Whether a turn writes these bytes.
 fn writes(turn: Result<Turn, HubFault>, bytes: &[u8]) -> bool {
-    match turn {
-        Ok(turn) => turn.out.as_slice() == bytes,
-        Err(_) => false,
-    }
+    turn.is_ok_and(|turn| turn.out.as_slice() == bytes)
 }
 
 /// Whether the peer calls the call with this id.
@@ -143,102 +114,105 @@ fn calls(turn: Result<Turn, HubFault>, wanted: i32) -> bool {
 }
 
 /// The application answers the call with this id by the number 2.
-fn answer<H: Hub>(
-    hub: &mut H,
-    alloc: Global,
-    text: &str,
-    id: i32,
-) -> Result<Result<(), HubFault>, Fail>
+fn answer<H: Hub>(hub: &mut H, alloc: Global, text: &str, id: i32) -> Result<(), HubFault>
     ensures { (s : Seat) → 0 < H.seats hub.old s → 0 < H.seats hub.new s }
 {
-    let key = key(text)?;
-    let now = at(0)?;
-    let body = Value::Int { n: 2 };
-    let tell = Tell::Answer {
-        id,
-        answer: Answer::Success { body },
-        fire: None,
+    let Some(key) = key(text) else {
+        return Err(HubFault::NoMemory);
     };
-    Ok(hub.tell(alloc, &key, tell, now))
+    let body = Value::Int { n: 2 };
+    let answer = Answer::Success { body };
+    let fire = None;
+    hub.tell(alloc, &key, Tell::Answer { id, answer, fire }, at(0))
 }
 
 /// How a session has ended, by what an answer for it is refused with.
-fn cause<H: Hub>(hub: &mut H, alloc: Global, text: &str) -> Result<Option<Cause>, Fail> {
-    match answer(hub, alloc, text, 0)? {
+fn cause<H: Hub>(hub: &mut H, alloc: Global, text: &str) -> Option<Cause> {
+    match answer(hub, alloc, text, 0) {
         Err(
             HubFault::Session {
                 fault: SessionFault::Ended { cause },
             },
-        ) => Ok(Some(cause)),
-        Ok(()) | Err(_) => Ok(None),
+        ) => Some(cause),
+        Ok(()) | Err(_) => None,
     }
 }
 
 /// The session hears the context and Initialize, and then a call.
-fn is_called<H: Hub>(hub: &mut H, alloc: Global, seat: &Seat) -> Result<bool, Fail>
+fn is_called<H: Hub>(hub: &mut H, alloc: Global, seat: &Seat) -> bool
     requires { 0 < H.seats hub.old seat.now }
     ensures { (s : Seat) → 0 < H.seats hub.old s → 0 < H.seats hub.new s }
 {
-    let attached = attach(hub, alloc, seat, 0)?;
-    let greeted = writes(turn(hub, alloc, seat, OPENING)?, SERVER_1);
-    let ready = writes(turn(hub, alloc, seat, &[])?, &[]);
-    let called = calls(turn(hub, alloc, seat, CLIENT_3)?, 0);
-    Ok(attached && greeted && ready && called)
+    let attached = attach(hub, alloc, seat);
+    let greeted = writes(turn(hub, alloc, seat, OPENING), SERVER_1);
+    let ready = writes(turn(hub, alloc, seat, &[]), &[]);
+    let called = calls(turn(hub, alloc, seat, CLIENT_3), 0);
+    attached && greeted && ready && called
 }
 
 /// The link is lost.
-fn lose<H: Hub>(hub: &mut H, seat: Seat, millis: u64) -> Result<(), Fail>
+fn lose<H: Hub>(hub: &mut H, seat: Seat)
     requires { 0 < H.seats hub.old seat }
 {
-    let now = at(millis)?;
-    hub.lost(seat, now);
-    Ok(())
+    hub.lost(seat, at(0));
 }
 
 /// The call is answered over the second link.
 fn answered_later<H: Hub>(hub: &mut H, alloc: Global, text: &str) -> Result<bool, Fail> {
     let second = admit(hub, alloc, text, true, 0)?;
-    let attached = attach(hub, alloc, &second, 0)?;
-    let answered = writes(turn(hub, alloc, &second, &[])?, ANSWERED);
-    lose(hub, second, 0)?;
+    let attached = attach(hub, alloc, &second);
+    let answered = writes(turn(hub, alloc, &second, &[]), ANSWERED);
+    lose(hub, second);
     Ok(attached && answered)
 }
 
 /// A session is called over its first link.
 fn called_first<H: Hub>(hub: &mut H, alloc: Global, text: &str) -> Result<bool, Fail> {
     let first = admit(hub, alloc, text, false, 0)?;
-    let called = is_called(hub, alloc, &first)?;
-    lose(hub, first, 0)?;
+    let called = is_called(hub, alloc, &first);
+    lose(hub, first);
     Ok(called)
+}
+
+/// Two sessions are called, answered while they have no link, and then hear it.
+fn both_outlive<H: Hub>(hub: &mut H, alloc: Global) -> Result<[bool; 6], Fail> {
+    Ok([
+        called_first(hub, alloc, "t1")?,
+        called_first(hub, alloc, "t2")?,
+        answer(hub, alloc, "t2", 0).is_ok(),
+        answer(hub, alloc, "t1", 0).is_ok(),
+        answered_later(hub, alloc, "t1")?,
+        answered_later(hub, alloc, "t2")?,
+    ])
 }
 
 #[test]
 fn sessions_outlive_their_links_and_stay_apart(rt: HostRuntime) -> Result<(), Fail> {
     let mut hub = PlainHub::new(rt.alloc(), LONG, SHORT);
-    assert!(rt; called_first(&mut hub, rt.alloc(), "t1")?);
-    assert!(rt; called_first(&mut hub, rt.alloc(), "t2")?);
-    assert!(rt; answer(&mut hub, rt.alloc(), "t2", 0)?.is_ok());
-    assert!(rt; answer(&mut hub, rt.alloc(), "t1", 0)?.is_ok());
-    assert!(rt; answered_later(&mut hub, rt.alloc(), "t1")?);
-    assert!(rt; answered_later(&mut hub, rt.alloc(), "t2")?);
+    assert_eq!(rt; both_outlive(&mut hub, rt.alloc())?, [true; 6]);
     Ok(())
+}
+
+/// Whether link 2 is the present one.
+fn is_second(fault: SessionFault) -> bool {
+    matches!(fault, SessionFault::Stale { current: 2 })
+}
+
+/// Whether a turn is refused since another link is the present one, the second.
+fn is_stale(turn: Result<Turn, HubFault>) -> bool {
+    match turn {
+        Err(HubFault::Session { fault }) => is_second(fault),
+        Ok(_) | Err(_) => false,
+    }
 }
 
 /// Link 2 begins, and link 1 is the present one no more.
 fn old_link_is_stale<H: Hub>(hub: &mut H, alloc: Global) -> Result<bool, Fail> {
     let first = admit(hub, alloc, "t1", false, 0)?;
     let second = admit(hub, alloc, "t1", true, 0)?;
-    let attached = attach(hub, alloc, &second, 0)?;
-    let stale = turn(hub, alloc, &first, OPENING)?;
-    Ok(
-        attached
-            && matches!(
-                stale,
-                Err(HubFault::Session {
-                    fault: SessionFault::Stale { current: 2 },
-                },)
-            ),
-    )
+    let attached = attach(hub, alloc, &second);
+    let stale = is_stale(turn(hub, alloc, &first, OPENING));
+    Ok(attached && stale)
 }
 
 #[test]
@@ -248,20 +222,24 @@ fn an_old_link_is_stale(rt: HostRuntime) -> Result<(), Fail> {
     Ok(())
 }
 
-/// An answer to a call that nobody made is refused.
+/// Whether the session has no call of this id.
+fn is_no_call(told: Result<(), HubFault>, wanted: i32) -> bool {
+    match told {
+        Err(
+            HubFault::Session {
+                fault: SessionFault::NoSuchCall { id },
+            },
+        ) => id == wanted,
+        Ok(()) | Err(_) => false,
+    }
+}
+
+/// An answer is refused where there is no session, and then where nobody made the call.
 fn no_such_call<H: Hub>(hub: &mut H, alloc: Global) -> Result<bool, Fail> {
-    let missed = matches!(answer(hub, alloc, "t1", 5)?, Err(HubFault::NoSession));
+    let missed = matches!(answer(hub, alloc, "t1", 5), Err(HubFault::NoSession));
     admit(hub, alloc, "t1", false, 0)?;
-    let told = answer(hub, alloc, "t1", 5)?;
-    Ok(
-        missed
-            && matches!(
-                told,
-                Err(HubFault::Session {
-                    fault: SessionFault::NoSuchCall { id: 5 },
-                },)
-            ),
-    )
+    let refused = is_no_call(answer(hub, alloc, "t1", 5), 5);
+    Ok(missed && refused)
 }
 
 #[test]
@@ -271,70 +249,93 @@ fn nobody_is_told(rt: HostRuntime) -> Result<(), Fail> {
     Ok(())
 }
 
-/// A session is closed, and can't be reconnected.
-fn closed<H: Hub>(hub: &mut H, alloc: Global) -> Result<bool, Fail> {
+/// A session is closed.
+fn close<H: Hub>(hub: &mut H, alloc: Global) -> Result<(), Fail> {
     let seat = admit(hub, alloc, "t1", false, 0)?;
-    let now = at(0)?;
-    hub.close(seat, Cause::Disconnected, now);
+    hub.close(seat, Cause::Disconnected, at(0));
+    Ok(())
+}
+
+/// A session that was closed has that end, and can't be reconnected.
+fn closed<H: Hub>(hub: &mut H, alloc: Global) -> Result<bool, Fail> {
+    close(hub, alloc)?;
     Ok(
-        cause(hub, alloc, "t1")? == Some(Cause::Disconnected)
+        cause(hub, alloc, "t1") == Some(Cause::Disconnected)
             && refusal(hub, alloc, "t1", true, 1)? == Some(Reason::SeenBefore),
     )
 }
 
-/// A session whose link was lost ends once its grace is over.
+/// A session whose link was lost ends once its grace is over: what a tick just before and one at that moment sweep.
 fn expires<H: Hub>(hub: &mut H, alloc: Global) -> Result<(Swept, Swept), Fail> {
     let seat = admit(hub, alloc, "t2", false, 0)?;
-    lose(hub, seat, 0)?;
-    let now = at(LONG - 1)?;
-    let early = hub.tick(alloc, now);
-    let now = at(LONG)?;
-    let late = hub.tick(alloc, now);
-    Ok((early, late))
+    lose(hub, seat);
+    let early = hub.tick(alloc, at(LONG - 1));
+    Ok((early, hub.tick(alloc, at(LONG))))
 }
+
+const NONE: Swept = Swept {
+    expired: 0,
+    short: 0,
+};
+
+const ONE: Swept = Swept {
+    expired: 1,
+    short: 0,
+};
 
 #[test]
 fn sessions_end(rt: HostRuntime) -> Result<(), Fail> {
     let mut hub = PlainHub::new(rt.alloc(), LONG, SHORT);
     assert!(rt; closed(&mut hub, rt.alloc())?);
-    let (early, late) = expires(&mut hub, rt.alloc())?;
-    assert_eq!(rt;
-        early,
-        Swept {
-            expired: 0,
-            short: 0
-        }
-    );
-    assert_eq!(rt;
-        late,
-        Swept {
-            expired: 1,
-            short: 0
-        }
-    );
-    assert_eq!(rt; cause(&mut hub, rt.alloc(), "t2")?, Some(Cause::GraceOver));
+    assert!(rt; expires(&mut hub, rt.alloc())? == (NONE, ONE));
+    assert!(rt; cause(&mut hub, rt.alloc(), "t2") == Some(Cause::GraceOver));
     Ok(())
+}
+
+/// Whether what was heard is no packet.
+fn is_bad_ipc(fault: SessionFault) -> bool {
+    matches!(fault, SessionFault::BadIpc { .. })
+}
+
+/// Whether a turn is refused since its message is no packet.
+fn is_bad(turn: Result<Turn, HubFault>) -> bool {
+    match turn {
+        Err(HubFault::Session { fault }) => is_bad_ipc(fault),
+        Ok(_) | Err(_) => false,
+    }
 }
 
 /// A message that is no packet ends its session.
 fn spoiled<H: Hub>(hub: &mut H, alloc: Global) -> Result<bool, Fail> {
     let seat = admit(hub, alloc, "t1", false, 0)?;
-    attach(hub, alloc, &seat, 0)?;
-    let bad = turn(hub, alloc, &seat, BAD)?;
-    Ok(matches!(
-        bad,
-        Err(HubFault::Session {
-            fault: SessionFault::BadIpc { .. },
-        },)
-    ))
+    attach(hub, alloc, &seat);
+    let bad = is_bad(turn(hub, alloc, &seat, BAD));
+    Ok(bad)
 }
 
 #[test]
 fn a_bad_message_ends_its_session_alone(rt: HostRuntime) -> Result<(), Fail> {
     let mut hub = PlainHub::new(rt.alloc(), LONG, SHORT);
     assert!(rt; spoiled(&mut hub, rt.alloc())?);
-    assert_eq!(rt; cause(&mut hub, rt.alloc(), "t1")?, Some(Cause::BadIpc));
+    assert!(rt; cause(&mut hub, rt.alloc(), "t1") == Some(Cause::BadIpc));
     assert!(rt; called_first(&mut hub, rt.alloc(), "t2")?);
+    Ok(())
+}
+
+/// A hub of so many sessions, and whether one more is admitted.
+fn admits_many<H: Hub>(hub: &mut H, alloc: Global, count: usize) -> Result<bool, Fail> {
+    for session in 0..count {
+        let text = format!(in alloc; "t{session}")?;
+        admit(hub, alloc, text.as_str(), false, 0)?;
+    }
+    admit(hub, alloc, "last", false, 0)?;
+    Ok(true)
+}
+
+#[test]
+fn many_sessions_are_open(rt: HostRuntime) -> Result<(), Fail> {
+    let mut hub = PlainHub::new(rt.alloc(), LONG, SHORT);
+    assert!(rt; admits_many(&mut hub, rt.alloc(), 1_001)?);
     Ok(())
 }
 
@@ -354,10 +355,9 @@ fn failing(alloc: Global) -> Result<PlainHub<MemKeeper>, Fail> {
 fn second_is_not_kept(hub: &mut PlainHub<MemKeeper>, alloc: Global) -> Result<bool, Fail> {
     admit(hub, alloc, "t1", false, 0)?;
     let ask = ask("t2", false)?;
-    let now = at(5)?;
-    let not_kept = hub.admit(alloc, ask, now);
+    let not_kept = matches!(hub.admit(alloc, ask, at(5)), Err(HubFault::KeepFault));
     admit(hub, alloc, "t2", false, 6)?;
-    Ok(matches!(not_kept, Err(HubFault::KeepFault)))
+    Ok(not_kept)
 }
 
 /// What a hub over the same records answers.
@@ -366,25 +366,59 @@ fn starts_again(hub: &mut PlainHub<MemKeeper>, alloc: Global) -> Result<bool, Fa
         refusal(hub, alloc, "t1", true, 10)? == Some(Reason::SeenBefore)
             && refusal(hub, alloc, "t1", false, 11)? == Some(Reason::Duplicate)
             && refusal(hub, alloc, "t3", true, 12)? == Some(Reason::NeverSeen)
-            && cause(hub, alloc, "t1")? == Some(Cause::Stopped),
+            && cause(hub, alloc, "t1") == Some(Cause::Stopped),
     )
+}
+
+/// The records of the keeper.
+fn records(alloc: Global, hub: PlainHub<MemKeeper>) -> Result<Vec<Record>, Fail>
+    ensures { IfOk result (λ records. All IsOfNoTunnel records.items) }
+{
+    Ok(hub.into_keeper().all(alloc).ok().ok_or("not told")?)
+}
+
+fn are_kept(records: &[Record]) -> bool {
+    records.len() == 2
+        && (records[0].epoch, records[0].at) == (1, 0)
+        && (records[1].epoch, records[1].at) == (1, 6)
+}
+
+/// A hub that starts with these records.
+fn again(alloc: Global, kept: Vec<Record>) -> Result<PlainHub<MemKeeper>, Fail>
+    requires { All IsOfNoTunnel kept.items }
+{
+    let keeper = MemKeeper::with(kept, Vec::new(alloc));
+    Ok(
+        PlainHub::start(alloc, keeper, LONG, SHORT)
+            .ok()
+            .ok_or("not started")?,
+    )
+}
+
+/// The records of a hub whose second request was not kept.
+fn first_run(alloc: Global) -> Result<Vec<Record>, Fail>
+    ensures { IfOk result (λ records. All IsOfNoTunnel records.items) }
+{
+    let mut hub = failing(alloc)?;
+    if second_is_not_kept(&mut hub, alloc)? {
+        records(alloc, hub)
+    } else {
+        Err("answered".into())
+    }
+}
+
+fn second_run(alloc: Global, kept: Vec<Record>) -> Result<bool, Fail>
+    requires { All IsOfNoTunnel kept.items }
+{
+    let mut hub = again(alloc, kept)?;
+    starts_again(&mut hub, alloc)
 }
 
 #[test]
 fn an_acceptance_is_kept_before_it_is_answered(rt: HostRuntime) -> Result<(), Fail> {
-    let mut hub = failing(rt.alloc())?;
-    assert!(rt; second_is_not_kept(&mut hub, rt.alloc())?);
-    let kept = hub.into_keeper().all(rt.alloc()).ok().ok_or("not told")?;
-    assert_eq!(rt; kept.len(), 2);
-    assert_eq!(rt;
-        (kept[0].epoch, kept[0].at, kept[1].epoch, kept[1].at),
-        (1, 0, 1, 6)
-    );
-    let keeper = MemKeeper::with(kept, Vec::new(rt.alloc()));
-    let mut again = PlainHub::start(rt.alloc(), keeper, LONG, SHORT)
-        .ok()
-        .ok_or("not started")?;
-    assert!(rt; starts_again(&mut again, rt.alloc())?);
+    let kept = first_run(rt.alloc())?;
+    assert!(rt; are_kept(kept.as_slice()));
+    assert!(rt; second_run(rt.alloc(), kept)?);
     Ok(())
 }
 
@@ -392,7 +426,7 @@ fn an_acceptance_is_kept_before_it_is_answered(rt: HostRuntime) -> Result<(), Fa
 fn job(alloc: Global, text: &str, body: &[u8]) -> Result<Job, Fail> {
     let body = Message::copy(alloc, body)?;
     Ok(Job {
-        key: key(text)?,
+        key: key(text).ok_or("no token")?,
         work: Work::Host { body },
     })
 }

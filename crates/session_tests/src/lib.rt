@@ -1,4 +1,4 @@
-//! Tests of values, packets, channels, sessions, the hub, the dialer and the tools, where no contract says what they do.
+//! Tests of values, packets, channels, sessions, the hub and the tools, where no contract says what they do.
 #![tactic(auto)]
 
 #[cfg(test)]
@@ -6,11 +6,13 @@ mod channel_clients;
 #[cfg(test)]
 mod channel_servers;
 #[cfg(test)]
-mod dialers;
+mod fixtures;
 #[cfg(test)]
 mod hubs;
 #[cfg(test)]
 mod packets;
+#[cfg(test)]
+mod session_acts;
 #[cfg(test)]
 mod sessions;
 #[cfg(test)]

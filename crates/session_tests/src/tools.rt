@@ -1,8 +1,58 @@
+//! The shipped tools: what each answers, what it says to those who listen, and how it fails.
+use crate::fixtures::hi;
 use ra_app::{App, Done, Tools, too_large};
 use ra_ipc::Answer;
 use ra_values::{Bytes, NoMemory, Text, Value};
 use std::alloc::Global;
 use std::test::*;
+
+/// What is to come of a tool.
+#[derive(Drop)]
+enum Wanted {
+    /// The text `hi` as its answer.
+    Hi,
+    /// The number 2 as its answer.
+    Two,
+    /// The event `said` of `hi`.
+    Said,
+    /// This error as its answer.
+    Error(&'static str),
+}
+
+/// Whether the value is the text `hi`.
+fn is_hi(value: &Value) -> bool {
+    matches!(value, Value::Text { text } if text.as_str() == "hi")
+}
+
+fn is_json(answer: &Answer, wanted: &str) -> bool {
+    matches!(answer, Answer::Error { body: Value::Object { json } } if json.as_str() == wanted)
+}
+
+fn is_two(answer: &Answer) -> bool {
+    matches!(
+        answer,
+        Answer::Success {
+            body: Value::Int { n: 2 }
+        }
+    )
+}
+
+fn is_echo(answer: &Answer) -> bool {
+    matches!(answer, Answer::Success { body } if is_hi(body))
+}
+
+fn says_hi(done: &Done) -> bool {
+    matches!(&done.fire, Some(shout) if shout.event.as_str() == "said" && is_hi(&shout.body))
+}
+
+fn is_wanted(done: &Done, wanted: &Wanted) -> bool {
+    match wanted {
+        Wanted::Hi => is_echo(&done.answer),
+        Wanted::Two => is_two(&done.answer),
+        Wanted::Said => says_hi(done),
+        Wanted::Error(json) => is_json(&done.answer, json),
+    }
+}
 
 /// Calls the tool on the channel `tools`.
 fn called(alloc: Global, name: &str, arg: &Value, cancelled: bool) -> Result<Done, NoMemory> {
@@ -14,108 +64,75 @@ fn called(alloc: Global, name: &str, arg: &Value, cancelled: bool) -> Result<Don
     Tools.call(alloc, &channel, &name, arg, cancelled)
 }
 
-/// Whether the value is this text.
-fn is_text(value: &Value, wanted: &str) -> bool {
-    matches!(value, Value::Text { text } if text.as_str() == wanted)
+fn comes_to(alloc: Global, name: &str, arg: &Value, cancelled: bool, wanted: &Wanted) -> bool {
+    match called(alloc, name, arg, cancelled) {
+        Ok(done) => is_wanted(&done, wanted),
+        Err(_) => false,
+    }
 }
 
-fn is_json(answer: &Answer, wanted: &str) -> bool {
-    matches!(answer, Answer::Error { body: Value::Object { json } } if json.as_str() == wanted)
-}
-
-fn is_number(answer: &Answer, wanted: i32) -> bool {
-    matches!(answer, Answer::Success { body: Value::Int { n } } if *n == wanted)
-}
-
-fn is_echo(answer: &Answer, wanted: &str) -> bool {
-    matches!(answer, Answer::Success { body } if is_text(body, wanted))
-}
-
-fn says(done: &Done, wanted: &str) -> bool {
-    matches!(&done.fire, Some(shout) if shout.event.as_str() == "said" && is_text(&shout.body, wanted))
-}
-
-/// The text `hi` as a value.
-fn hi(alloc: Global) -> Result<Value, NoMemory> {
-    let text = Text::of(alloc, "hi")?;
-    Ok(Value::Text { text })
-}
-
-fn echoes(alloc: Global) -> Result<bool, NoMemory> {
-    let done = called(alloc, "echo", &hi(alloc)?, false)?;
-    Ok(is_echo(&done.answer, "hi"))
-}
-
-fn counts(alloc: Global) -> Result<bool, NoMemory> {
-    let done = called(alloc, "length", &hi(alloc)?, false)?;
-    Ok(is_number(&done.answer, 2))
-}
-
-fn shouts(alloc: Global) -> Result<bool, NoMemory> {
-    let done = called(alloc, "say", &hi(alloc)?, false)?;
-    Ok(says(&done, "hi"))
-}
-
-fn errs(alloc: Global, name: &str, cancelled: bool, json: &str) -> Result<bool, NoMemory> {
-    let bytes = Bytes::of(alloc, b"hi")?;
-    let done = called(alloc, name, &Value::Buffer { bytes }, cancelled)?;
-    Ok(is_json(&done.answer, json))
+/// Whether the tool of this name makes this of the text `hi`.
+fn of_text(alloc: Global, name: &str, wanted: &Wanted) -> bool {
+    match hi(alloc) {
+        Ok(arg) => comes_to(alloc, name, &arg, false, wanted),
+        Err(_) => false,
+    }
 }
 
 #[test]
-fn tools_answer(rt: HostRuntime) -> Result<(), Fail> {
-    assert!(rt; echoes(rt.alloc())?);
-    assert!(rt; counts(rt.alloc())?);
-    assert!(rt; shouts(rt.alloc())?);
-    Ok(())
+fn tools_answer(rt: HostRuntime) {
+    assert!(rt; of_text(rt.alloc(), "echo", &Wanted::Hi));
+    assert!(rt; of_text(rt.alloc(), "length", &Wanted::Two));
+    assert!(rt; of_text(rt.alloc(), "say", &Wanted::Said));
+}
+
+/// Whether the tool of this name makes this of two bytes.
+fn of_bytes(alloc: Global, name: &str, cancelled: bool, wanted: &Wanted) -> bool {
+    match Bytes::of(alloc, b"hi") {
+        Ok(bytes) => comes_to(alloc, name, &Value::Buffer { bytes }, cancelled, wanted),
+        Err(_) => false,
+    }
+}
+
+/// A tool, whether the call is cancelled, and the error.
+const FAILURES: [(&str, bool, &str); 4] = [
+    (
+        "length",
+        false,
+        "{\"message\":\"not a text\",\"name\":\"Error\"}",
+    ),
+    ("fail", false, "{\"message\":\"failed\",\"name\":\"Error\"}"),
+    (
+        "fly",
+        false,
+        "{\"message\":\"unknown name\",\"name\":\"Error\"}",
+    ),
+    (
+        "echo",
+        true,
+        "{\"message\":\"Canceled\",\"name\":\"Canceled\"}",
+    ),
+];
+
+#[test]
+fn tools_fail(rt: HostRuntime) {
+    for (name, cancelled, json) in FAILURES {
+        assert!(rt;
+            of_bytes(rt.alloc(), name, cancelled, &Wanted::Error(json)),
+            "{name}"
+        );
+    }
+}
+
+fn is_too_large(alloc: Global, json: &str) -> bool {
+    match too_large(alloc) {
+        Ok(answer) => is_json(&answer, json),
+        Err(_) => false,
+    }
 }
 
 #[test]
-fn tools_fail(rt: HostRuntime) -> Result<(), Fail> {
-    let alloc = rt.alloc();
-    assert!(rt;
-        errs(
-            alloc,
-            "length",
-            false,
-            "{\"message\":\"not a text\",\"name\":\"Error\"}"
-        )?
-    );
-    assert!(rt;
-        errs(
-            alloc,
-            "fail",
-            false,
-            "{\"message\":\"failed\",\"name\":\"Error\"}"
-        )?
-    );
-    assert!(rt;
-        errs(
-            alloc,
-            "fly",
-            false,
-            "{\"message\":\"unknown name\",\"name\":\"Error\"}"
-        )?
-    );
-    assert!(rt;
-        errs(
-            alloc,
-            "echo",
-            true,
-            "{\"message\":\"Canceled\",\"name\":\"Canceled\"}"
-        )?
-    );
-    Ok(())
-}
-
-#[test]
-fn a_large_answer_is_replaced(rt: HostRuntime) -> Result<(), Fail> {
-    let answer = too_large(rt.alloc())?;
-    assert!(rt;
-        is_json(
-            &answer,
-            "{\"message\":\"answer too large\",\"name\":\"Error\"}"
-        )
-    );
-    Ok(())
+fn a_large_answer_is_replaced(rt: HostRuntime) {
+    let json = "{\"message\":\"answer too large\",\"name\":\"Error\"}";
+    assert!(rt; is_too_large(rt.alloc(), json));
 }

@@ -1,3 +1,4 @@
+//! Values: the first wrong place in bytes that are none, how deep arrays may lie in one another, and what is written.
 use ra_values::{Bytes, NoMemory, ReadFault, Text, Value, Wrong, append, laws, read};
 use sqlite_items::Items;
 use std::alloc::Global;
@@ -42,13 +43,18 @@ fn nested(alloc: Global, arrays: usize) -> Result<Value, NoMemory> {
     Ok(value)
 }
 
+/// Whether so many arrays, one in the other, fit.
+fn nested_fit(alloc: Global, arrays: usize) -> Option<bool> {
+    match nested(alloc, arrays) {
+        Ok(value) => Some(value.fits()),
+        Err(_) => None,
+    }
+}
+
 #[test]
-fn values_fit_down_to_the_last_level(rt: HostRuntime) -> Result<(), Fail> {
-    let deepest = nested(rt.alloc(), 127)?;
-    assert!(rt; deepest.fits());
-    let deeper = nested(rt.alloc(), 128)?;
-    assert!(rt; !deeper.fits());
-    Ok(())
+fn values_fit_down_to_the_last_level(rt: HostRuntime) {
+    assert!(rt; nested_fit(rt.alloc(), 127) == Some(true));
+    assert!(rt; nested_fit(rt.alloc(), 128) == Some(false));
 }
 
 /// The bytes of so many arrays, one in the other, around an undefined value.
@@ -62,51 +68,76 @@ fn nested_bytes(alloc: Global, arrays: usize) -> Result<Vec<u8>, NoMemory> {
     Ok(bytes)
 }
 
-#[test]
-fn the_last_level_is_read_and_no_deeper_one(rt: HostRuntime) -> Result<(), Fail> {
-    let deepest = nested_bytes(rt.alloc(), 127)?;
-    let found = read(rt.alloc(), &deepest)?;
-    assert_eq!(rt; found.1, 255);
-    let deeper = nested_bytes(rt.alloc(), 128)?;
-    assert!(rt; is_bad(rt.alloc(), &deeper, 256, Wrong::TooDeep));
-    Ok(())
-}
-
-fn is_written_as(alloc: Global, value: &Value, bytes: &[u8]) -> Result<bool, NoMemory> {
-    let mut written = Vec::new(alloc);
-    if value.fits() {
-        append(value, &mut written)?;
+/// Where the value ends that begins these bytes.
+fn end_of(alloc: Global, bytes: &[u8]) -> Option<usize> {
+    match read(alloc, bytes) {
+        Ok((_, end)) => Some(end),
+        Err(_) => None,
     }
-    Ok(written.as_slice() == bytes)
+}
+
+/// Whether so many arrays, one in the other, are read to this end.
+fn nested_end_at(alloc: Global, arrays: usize, end: usize) -> bool {
+    match nested_bytes(alloc, arrays) {
+        Ok(bytes) => end_of(alloc, &bytes) == Some(end),
+        Err(_) => false,
+    }
+}
+
+/// Whether so many arrays, one in the other, are too deep at this place.
+fn nested_too_deep(alloc: Global, arrays: usize, at: usize) -> bool {
+    match nested_bytes(alloc, arrays) {
+        Ok(bytes) => is_bad(alloc, &bytes, at, Wrong::TooDeep),
+        Err(_) => false,
+    }
 }
 
 #[test]
-fn what_was_read_is_copied_and_written(rt: HostRuntime) -> Result<(), Fail> {
+fn the_last_level_is_read_and_no_deeper_one(rt: HostRuntime) {
+    assert!(rt; nested_end_at(rt.alloc(), 127, 255));
+    assert!(rt; nested_too_deep(rt.alloc(), 128, 256));
+}
+
+/// The value fits, and is written.
+fn write(value: &Value, to: &mut Vec<u8>) -> bool {
+    value.fits() && append(value, to).is_ok()
+}
+
+fn is_written_as(alloc: Global, value: &Value, bytes: &[u8]) -> bool {
+    let mut written = Vec::new(alloc);
+    write(value, &mut written) && written.as_slice() == bytes
+}
+
+/// Whether a copy of the value that begins these bytes is written as they are.
+fn copy_is_written_as(alloc: Global, bytes: &[u8], expected: &[u8]) -> bool {
+    let Ok((value, _)) = read(alloc, bytes) else {
+        return false;
+    };
+    match value.copy(alloc) {
+        Ok(copy) => is_written_as(alloc, &copy, expected),
+        Err(_) => false,
+    }
+}
+
+#[test]
+fn what_was_read_is_copied_and_written(rt: HostRuntime) {
     let bytes = [
         4, 3, 6, 0xff, 0xff, 0xff, 0xff, 0x0f, 1, 2, 0x68, 0x69, 4, 1, 0, 99,
     ];
-    let found = read(rt.alloc(), &bytes)?;
-    assert_eq!(rt; found.1, 15);
-    let copied = found.0.copy(rt.alloc())?;
-    let same = is_written_as(rt.alloc(), &copied, &bytes[..15]);
-    assert!(rt; same?);
-    Ok(())
+    assert!(rt; end_of(rt.alloc(), &bytes) == Some(15));
+    assert!(rt; copy_is_written_as(rt.alloc(), &bytes, &bytes[..15]));
 }
 
 #[test]
 fn contents_are_written(rt: HostRuntime) -> Result<(), Fail> {
     let text = Text::of(rt.alloc(), "hi")?;
-    let text = is_written_as(rt.alloc(), &Value::Text { text }, b"\x01\x02hi");
-    assert!(rt; text?);
+    assert!(rt; is_written_as(rt.alloc(), &Value::Text { text }, b"\x01\x02hi"));
     let json = Text::of(rt.alloc(), "{}")?;
-    let object = is_written_as(rt.alloc(), &Value::Object { json }, b"\x05\x02{}");
-    assert!(rt; object?);
+    assert!(rt; is_written_as(rt.alloc(), &Value::Object { json }, b"\x05\x02{}"));
     let bytes = Bytes::of(rt.alloc(), b"hi")?;
-    let buffer = is_written_as(rt.alloc(), &Value::Buffer { bytes }, b"\x02\x02hi");
-    assert!(rt; buffer?);
+    assert!(rt; is_written_as(rt.alloc(), &Value::Buffer { bytes }, b"\x02\x02hi"));
     let bytes = Bytes::from_vec(Vec::new(rt.alloc()));
-    let empty = is_written_as(rt.alloc(), &Value::VsBuffer { bytes }, &[3, 0]);
-    assert!(rt; empty?);
+    assert!(rt; is_written_as(rt.alloc(), &Value::VsBuffer { bytes }, &[3, 0]));
     laws::one_spelling();
     Ok(())
 }
