@@ -142,7 +142,7 @@ fn serve(hub: &mut ServerHub, link: &mut MemLink, around: &mut Around, turns: u6
 }
 
 /// What a link comes to.
-fn outcome(
+fn served_outcome(
     alloc: Global,
     hub: &mut ServerHub,
     link: &mut MemLink,
@@ -165,7 +165,7 @@ pub(crate) fn run_on(
     turns: u64,
 ) -> Result<Outcome, Fail> {
     let mut link = link_of(alloc, bytes, cut, failing)?;
-    outcome(alloc, hub, &mut link, turns)
+    served_outcome(alloc, hub, &mut link, turns)
 }
 
 /// What a link of a new hub comes to that gives these bytes.
@@ -236,7 +236,7 @@ fn framed_window(alloc: Global) -> Result<MemLink, Fail> {
 fn a_framed_link_is_served(rt: HostRuntime) -> Result<(), Fail> {
     let mut hub = hub_with(rt.alloc(), Vec::new(rt.alloc()))?;
     let mut link = framed_window(rt.alloc())?;
-    let Outcome { end, sent, jobs } = outcome(rt.alloc(), &mut hub, &mut link, 100)?;
+    let Outcome { end, sent, jobs } = served_outcome(rt.alloc(), &mut hub, &mut link, 100)?;
     let is_last = sent.ends_with(ACCEPTED);
     assert_eq!(rt; (end, jobs, is_last), (Ended::Closed, 1, true));
     Ok(())

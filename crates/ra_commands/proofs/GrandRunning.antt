@@ -19,15 +19,15 @@ use Rattle.ra_grand_runs.specs.Grands.{Grand, new_grand}
 use Rattle.ra_grand.specs.GrandStates.{StandsForGrand}
 use Rattle.ra_grand_runs.specs.GrandViews.{Applies, IsCause, effect_of}
 use Rattle.ra_grand_runs.specs.Marks.{Mark, whole}
-use Rattle.agent.specs.declared.report.Ending.{Ending}
-use Rattle.agent.specs.declared.report.Ending.TheVariants.{Done, Refused}
-use Rattle.agent.specs.Grand.{GrandStep, refused_or, event_step, goes_on, and_then, frame_on, drain_within, drain_step, line_step, step_then, lines_report, world_line}
-use Rattle.agent.specs.GrandLines.{IsWhole, AddsLine, AddsFault, effect_text, made_word, grand_fault_line, grand_end_line}
-use Rattle.agent.specs.GrandSteps.{GrandMakes, GrandSteps, TakesOneFrame, RefusesFrame}
-use Rattle.agent.specs.Lines.{line}
-use Rattle.agent.specs.Receive.{Report, prefixed}
-use Rattle.agent.specs.Stepping.{Adds}
-use Rattle.agent.proofs.WholeEvents.{as_whole}
+use Rattle.ra_endpoint_commands.specs.declared.report.Ending.{Ending}
+use Rattle.ra_endpoint_commands.specs.declared.report.Ending.TheVariants.{Done, Refused}
+use Rattle.ra_commands.specs.Grand.{GrandStep, refused_or, event_step, goes_on, and_then, frame_on, drain_within, drain_step, line_step, step_then, lines_report, world_line}
+use Rattle.ra_commands.specs.GrandLines.{IsWhole, AddsLine, AddsFault, effect_text, made_word, grand_fault_line, grand_end_line}
+use Rattle.ra_commands.specs.GrandSteps.{GrandMakes, GrandSteps, TakesOneFrame, RefusesFrame}
+use Rattle.ra_endpoint_commands.specs.Lines.{line}
+use Rattle.ra_endpoint_commands.specs.Receive.{Report, prefixed}
+use Rattle.ra_endpoint_commands.specs.Stepping.{Adds}
+use Rattle.ra_commands.proofs.WholeEvents.{as_whole}
 
 -- ---- an event
 

@@ -9,7 +9,7 @@ use Rattle.ra_grand_runs.specs.Grands.{Grand, Found, find_link, on_link}
 use Rattle.ra_grand_runs.specs.GrandSweeps.{expired_keys, swept_hub, sweeps}
 use Rattle.ra_grand_runs.specs.Marks.{Mark, whole, short, unticked}
 use Rattle.ra_grand_runs.specs.ServedLinks.{piece_came}
-use Rattle.agent.specs.GrandLines.{IsWhole}
+use Rattle.ra_commands.specs.GrandLines.{IsWhole}
 
 abbrev AsWhole : Mark → GrandEvent → Grand → Type 0
 AsWhole mark event w = (effect mark event w ≡ effect whole event w) × (happens mark event w ≡ happens whole event w)

@@ -14,14 +14,14 @@ use Rattle.ra_grand_runs.specs.GrandRefusals.{Refusal, refusal}
 use Rattle.ra_grand_runs.specs.GrandRuns.{happens}
 use Rattle.ra_grand_runs.specs.Grands.{Grand, new_grand}
 use Rattle.ra_grand_runs.specs.Marks.{whole}
-use Rattle.agent.specs.declared.report.Ending.TheVariants.{Done, Refused}
-use Rattle.agent.specs.declared.read_whole.Input.{Input}
-use Rattle.agent.specs.declared.read_whole.Input.TheVariants.{Whole, Over}
-use Rattle.agent.specs.GrandLines.{made_word, effect_text, grand_fault_line, grand_end_line}
-use Rattle.agent.specs.Lines.{line}
-use Rattle.agent.specs.Receive.{Report, prefixed}
-use Rattle.agent.specs.Replay.{script_limit, over_report}
-use Rattle.agent.specs.ReplayLines.{unread_line}
+use Rattle.ra_endpoint_commands.specs.declared.report.Ending.TheVariants.{Done, Refused}
+use Rattle.ra_endpoint_commands.specs.declared.read_whole.Input.{Input}
+use Rattle.ra_endpoint_commands.specs.declared.read_whole.Input.TheVariants.{Whole, Over}
+use Rattle.ra_commands.specs.GrandLines.{made_word, effect_text, grand_fault_line, grand_end_line}
+use Rattle.ra_endpoint_commands.specs.Lines.{line}
+use Rattle.ra_endpoint_commands.specs.Receive.{Report, prefixed}
+use Rattle.ra_endpoint_commands.specs.Replay.{script_limit, over_report}
+use Rattle.ra_endpoint_commands.specs.ReplayLines.{unread_line}
 
 -- ---- one line
 

@@ -15,7 +15,7 @@ use Rattle.ra_script.specs.declared.grand_line.GrandEvent.{GrandEvent}
 use Rattle.ra_script.specs.declared.grand_line.GrandEvent.TheVariants as events
 use Rattle.ra_grand_runs.specs.GrandEffects.{Effect, done, made, acts, moved, broke, swept, issued, outcome}
 use Rattle.ra_grand_runs.specs.GrandRefusals.{Refusal, no_such_link, no_such_client, no_such_job, token_taken, not_dialling, link_over, too_many, of_session}
-use Rattle.agent.specs.Lines.{hex_of, line}
+use Rattle.ra_endpoint_commands.specs.Lines.{hex_of, line}
 
 -- how a call ended, with the spelling of its value
 abbrev pub outcome_text : CallOutcome → List ℕ

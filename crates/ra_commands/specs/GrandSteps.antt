@@ -12,12 +12,12 @@ use Rattle.ra_grand_runs.specs.Grands.{Grand}
 use Rattle.ra_grand.specs.GrandStates.{StandsForGrand}
 use Rattle.ra_grand_runs.specs.GrandViews.{IsCause, effect_of}
 use Rattle.ra_grand_runs.specs.Marks.{whole}
-use Rattle.agent.specs.declared.read_whole.Input.{Input}
-use Rattle.agent.specs.declared.read_whole.Input.TheVariants.{Whole, Over}
-use Rattle.agent.specs.Grand.{GrandStep, goes_on}
-use Rattle.agent.specs.GrandLines.{effect_text, made_word}
-use Rattle.agent.specs.Lines.{line}
-use Rattle.agent.specs.Replay.{script_limit}
+use Rattle.ra_endpoint_commands.specs.declared.read_whole.Input.{Input}
+use Rattle.ra_endpoint_commands.specs.declared.read_whole.Input.TheVariants.{Whole, Over}
+use Rattle.ra_commands.specs.Grand.{GrandStep, goes_on}
+use Rattle.ra_commands.specs.GrandLines.{effect_text, made_word}
+use Rattle.ra_endpoint_commands.specs.Lines.{line}
+use Rattle.ra_endpoint_commands.specs.Replay.{script_limit}
 
 -- the world behind it stands for the step's, and the text has its lines
 pub record GrandMakes (world : GrandWorld) (before behind : List ℕ) (step : GrandStep) : Type 0 where

@@ -9,8 +9,8 @@ ghost use Rattle.ra_dial.specs.Acts.{act_of};
 ghost use Rattle.ra_grand_runs.specs.GrandEffects.{swept};
 ghost use Rattle.ra_grand_runs.specs.GrandRefusals.{Refusal};
 ghost use Rattle.ra_grand_runs.specs.GrandViews.{IsCause, effect_of, moved_to};
-ghost use Rattle.agent.specs.Lines.{hex_of};
-ghost use Rattle.agent.specs.GrandLines.{Adds, AddsFault, AddsLine, Ends, Names, NamesCause, act_text, dial_end_name, grand_end_line, made_word, outcome_text};
+ghost use Rattle.ra_endpoint_commands.specs.Lines.{hex_of};
+ghost use Rattle.ra_commands.specs.GrandLines.{Adds, AddsFault, AddsLine, Ends, Names, NamesCause, act_text, dial_end_name, grand_end_line, made_word, outcome_text};
 
 use ra_base::NoMemory;
 use ra_dial::{DialAct, DialEnd};

@@ -20,6 +20,10 @@ use Rattle.ra_grand_runs.specs.GrandClients.{GrandLink, Client, new_client, dial
 use Rattle.ra_grand_runs.specs.GrandRefusals.{Refusal, token_taken, of_link, of_client, by_session, holder}
 use Rattle.ra_grand_runs.specs.GrandRuns.{joins, on_dialer, on_session, with_place, links, takes, is_last, comes_down}
 use Rattle.ra_grand_runs.specs.Grands.{Grand, Place, Found, with_client, with_link, found_link, found_client, found_at, find_link, put_link}
+use Rattle.ra_run_laws.proofs.Lists.{none_there, there_is, number_same}
+use Rattle.ra_link_laws.specs.Parts.{WorldKeeps}
+use Rattle.ra_link_laws.proofs.WorldClients.{free, untaken, More, old, last, more_at}
+use Rattle.ra_link_laws.proofs.WorldLinks.{IsHere}
 use Rattle.ra_grand_laws.specs.ChannelParts.{ChannelsOf, ChannelsKeep}
 use Rattle.ra_grand_laws.specs.Outcomes.{framed}
 use Rattle.ra_grand_laws.proofs.ChannelAsks.{cancel_gives, channels_new}

@@ -24,6 +24,12 @@ use Rattle.ra_grand_runs.specs.GrandRuns.{on_session, bytes_up, bytes_down, come
 use Rattle.ra_grand_runs.specs.Grands.{Grand, Found, find_link, on_link, new_grand}
 use Rattle.ra_grand_runs.specs.Marks.{Mark, whole, short, unticked, Entry}
 use Rattle.ra_grand_runs.specs.ServedLinks.{piece_came, server_left}
+use Rattle.ra_run_laws.specs.Runs.{IsUnbroken, unless}
+use Rattle.ra_run_laws.proofs.Lists.{none_there, there_is}
+use Rattle.ra_run_laws.proofs.Rising.{step_after}
+use Rattle.ra_run_laws.proofs.RisingHubs.{HaveRows}
+use Rattle.ra_link_laws.specs.Parts.{WorldKeeps}
+use Rattle.ra_link_laws.proofs.WorldLinks.{IsHere, chosen}
 use Rattle.ra_grand_laws.specs.ChannelParts.{ChannelsKeep}
 use Rattle.ra_grand_laws.specs.Outcomes.{framed, settled_by, fired_by}
 use Rattle.ra_grand_laws.proofs.ChannelAsks.{call_stays, listen_stays, dispose_stays, say_stays}

@@ -23,6 +23,8 @@ use Rattle.ra_grand_runs.specs.GrandSweeps.{left_by, sweeps}
 use Rattle.ra_grand_runs.specs.Marks.{Mark}
 use Rattle.ra_grand_runs.specs.SetUps.{context}
 use Rattle.ra_grand_runs.specs.Works.{Telling, answers, speaks, told, telling, telling_refusal, Told, told_to, told_by, session_by, unless_ended, misses, tells, without_job, work_by, worked}
+use Rattle.ra_run_laws.proofs.Lists.{none_there, there_is}
+use Rattle.ra_run_laws.proofs.Rising.{told_session}
 use Rattle.ra_grand_laws.specs.ChannelParts.{WorkFits, HearsNone, ChannelsKeep}
 use Rattle.ra_grand_laws.proofs.ChannelAsks.{other_kind, no_say, said_hears}
 use Rattle.ra_grand_laws.proofs.ChannelSides.{Becomes, becomes_itself, becomes_mapped, keeps_swept}

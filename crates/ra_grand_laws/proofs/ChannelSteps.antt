@@ -20,6 +20,8 @@ use Rattle.ra_channel_laws.proofs.Silence.{silent_lose}
 use Rattle.ra_grand_runs.specs.GrandClients.{GrandLink, Client}
 use Rattle.ra_grand_runs.specs.Grands.{Grand, Found, changed, with_client, with_link}
 use Rattle.ra_grand_runs.specs.ServedLinks.{server_left}
+use Rattle.ra_run_laws.proofs.Lists.{none_there, there_is, same_or_not, get_same, get_other, by_bool}
+use Rattle.ra_link_laws.proofs.WorldLinks.{IsHere, StandsAt, stands_at}
 use Rattle.ra_grand_laws.specs.ChannelParts.{WorkFits, ChannelsOf, ChannelsKeep}
 use Rattle.ra_grand_laws.proofs.ChannelSides.{Becomes, becomes_itself, becomes_mapped, keeps_end_silent}
 

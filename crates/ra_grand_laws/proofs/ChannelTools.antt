@@ -21,6 +21,7 @@ use Rattle.ra_channel_laws.specs.Channels.{ChannelsHold}
 use Rattle.ra_channel_laws.proofs.Lists.{OfSome, all_both, all_found}
 use Rattle.ra_grand_runs.specs.SetUps.{context}
 use Rattle.ra_grand_runs.specs.Works.{Telling, answers, speaks, fired_on, answered_by, telling, large_answer, unless_large}
+use Rattle.ra_run_laws.proofs.Lists.{there_is}
 use Rattle.ra_grand_laws.specs.ChannelParts.{WorkFits}
 
 -- ---- the tools

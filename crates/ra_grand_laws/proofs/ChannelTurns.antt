@@ -29,6 +29,7 @@ use Rattle.ra_channel_laws.proofs.Frames.{never_bad}
 use Rattle.ra_channel_laws.proofs.Links.{client_silent}
 use Rattle.ra_channel_laws.proofs.Silence.{not_bad, silent_feed, silent_out}
 use Rattle.ra_grand_runs.specs.SetUps.{context}
+use Rattle.ra_link_laws.proofs.BadTurns.{both_none, second_is, feeds_going, fed_bad, long_bad, spent_bad}
 use Rattle.ra_grand_laws.specs.ChannelParts.{IsOrBegins, HearsNone, ChannelsOf}
 
 -- whichever session of the server it is that it hears, the two are the ends of a view once it has looked for bytes

@@ -12,6 +12,7 @@ use Rattle.ra_views.proofs.OtherLinks.{view_anew}
 use Rattle.ra_dial.specs.declared.stage.Stage.{Stage}
 use Rattle.ra_dial.specs.declared.stage.Stage.TheVariants as stages
 use Rattle.ra_grand_runs.specs.GrandClients.{Client}
+use Rattle.ra_link_laws.specs.Parts.{IsWelcome, HasWelcome, IsServer, StageKeeps, PartHolds}
 use Rattle.ra_grand_laws.specs.ChannelParts.{IsOrBegins}
 use Rattle.ra_grand_laws.proofs.ChannelTurns.{HearsFrom}
 

@@ -13,6 +13,8 @@ use Rattle.ra_registry.specs.declared.row.Row.{Row}
 use Rattle.ra_session.specs.Sessions.{Session}
 use Rattle.ra_link_core.specs.LinkRuns.{Welcome}
 use Rattle.ra_grand_runs.specs.GrandClients.{GrandLink, Client}
+use Rattle.ra_run_laws.proofs.Lists.{there_is}
+use Rattle.ra_link_laws.specs.Parts.{IsWelcome, HasWelcome, IsSeated, IsAttached, PartHolds}
 use Rattle.ra_grand_laws.specs.Ends.{BothHear, text_up, text_down, read_up, read_down, LinkHonest, HoldsLink}
 
 -- the view with the session at the server

@@ -19,6 +19,13 @@ use Rattle.ra_grand_runs.specs.Grands.{Grand, Place, Found, with_link, found_lin
 use Rattle.ra_grand_runs.specs.GrandSweeps.{sweeps}
 use Rattle.ra_grand_runs.specs.Marks.{Mark, whole, short, unticked, Entry}
 use Rattle.ra_grand_runs.specs.ServedLinks.{serving_at, served, piece_came}
+use Rattle.ra_run_laws.specs.Runs.{IsUnbroken, HasKey, HaveKeys, HaveRequests, unless}
+use Rattle.ra_run_laws.proofs.Rising.{step_after, rows_new}
+use Rattle.ra_run_laws.proofs.RisingHubs.{HaveRows}
+use Rattle.ra_link_laws.specs.Parts.{WorldKeeps}
+use Rattle.ra_link_laws.proofs.Folding.{keeps_after, keeps_new, not_over, not_over_at}
+use Rattle.ra_link_laws.proofs.WorldLinks.{IsHere, StandsAt, stands_at, chosen}
+use Rattle.ra_link_laws.proofs.WorldSteps.{world_changes}
 use Rattle.ra_grand_laws.specs.ChannelParts.{ChannelsKeep}
 use Rattle.ra_grand_laws.specs.GoodEnds.{IsGoodIfAny}
 use Rattle.ra_grand_laws.specs.Outcomes.{settled_by, fired_by, settled as settled_over, fired as fired_over}

@@ -16,6 +16,9 @@ use Rattle.ra_grand_runs.specs.GrandRuns.{bytes_up, bytes_down}
 use Rattle.ra_grand_runs.specs.Grands.{Grand, Place, Found, found_link, found_client, found_at, find_link}
 use Rattle.ra_grand_runs.specs.Marks.{Mark, whole, short, unticked, Entry}
 use Rattle.ra_grand_runs.specs.ServedLinks.{served}
+use Rattle.ra_link_laws.specs.Parts.{WorldKeeps}
+use Rattle.ra_link_laws.proofs.Folding.{not_over, not_over_at}
+use Rattle.ra_link_laws.proofs.WorldLinks.{IsHere, StandsAt, stands_at, chosen}
 use Rattle.ra_grand_laws.specs.ChannelParts.{ChannelsKeep}
 use Rattle.ra_grand_laws.specs.GoodEnds.{IsGoodEnd, IsGoodIfAny}
 use Rattle.ra_grand_laws.proofs.ServedEnds.{piece_ends}

@@ -11,6 +11,11 @@ use Rattle.ra_grand_runs.specs.GrandClients.{GrandLink, Client}
 use Rattle.ra_grand_runs.specs.Grands.{Grand, Found, with_link}
 use Rattle.ra_grand_runs.specs.Marks.{whole}
 use Rattle.ra_grand_runs.specs.ServedLinks.{piece_came}
+use Rattle.ra_run_laws.proofs.Lists.{there_is, same_or_not, get_same, get_other, by_bool}
+use Rattle.ra_link_laws.specs.Parts.{WorldKeeps}
+use Rattle.ra_link_laws.proofs.ServedParts.{piece_link, piece_changes}
+use Rattle.ra_link_laws.proofs.WorldLinks.{IsHere, StandsAt, stands_at}
+use Rattle.ra_link_laws.proofs.WorldSteps.{Changes}
 use Rattle.ra_grand_laws.specs.ChannelParts.{ChannelsOf, ChannelsKeep}
 use Rattle.ra_grand_laws.proofs.ServedEnds.{piece_channels}
 use Rattle.ra_grand_laws.proofs.WorksFit.{JobsFit}

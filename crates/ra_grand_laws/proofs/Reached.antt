@@ -6,6 +6,9 @@ use Rattle.ra_grand_runs.specs.GrandClients.{Client}
 use Rattle.ra_grand_runs.specs.GrandRuns.{run}
 use Rattle.ra_grand_runs.specs.Grands.{Grand, new_grand}
 use Rattle.ra_grand_runs.specs.Marks.{Entry}
+use Rattle.ra_run_laws.specs.Runs.{IsRun}
+use Rattle.ra_run_laws.proofs.Lists.{none_there}
+use Rattle.ra_link_laws.specs.Parts.{WorldKeeps}
 use Rattle.ra_grand_laws.specs.ChannelParts.{ChannelsKeep}
 use Rattle.ra_grand_laws.specs.Outcomes.{settled, fired}
 use Rattle.ra_grand_laws.proofs.FittingRuns.{fits_run}

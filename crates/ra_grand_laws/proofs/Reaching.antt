@@ -14,6 +14,9 @@ use Rattle.ra_grand_runs.specs.GrandClients.{GrandLink, Client}
 use Rattle.ra_grand_runs.specs.GrandRuns.{run}
 use Rattle.ra_grand_runs.specs.Grands.{Grand, new_grand}
 use Rattle.ra_grand_runs.specs.Marks.{Entry}
+use Rattle.ra_run_laws.specs.Runs.{IsRun}
+use Rattle.ra_run_laws.proofs.Lists.{none_there, there_is}
+use Rattle.ra_link_laws.specs.Parts.{EndStands, IsSeated, IsAttached, StageKeeps, PartHolds, WorldKeeps}
 use Rattle.ra_grand_laws.specs.Ends.{BothHear, LinkHonest, HoldsLink, text_up, text_down, read_up, read_down}
 use Rattle.ra_grand_laws.proofs.EndsOfParts.{both_hear, silent, link_honest, client_holds, server_holds}
 use Rattle.ra_grand_laws.proofs.FittingRuns.{fits_run}

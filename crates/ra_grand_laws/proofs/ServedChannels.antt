@@ -33,6 +33,14 @@ use Rattle.ra_link_core.specs.HubEvents.{event_done, event_jobs, session_jobs, t
 use Rattle.ra_link_core.specs.HubEvents.HubEvent.{Attach, Turn, Close}
 use Rattle.ra_link_core.specs.LinkRuns.{End, refused_by, Serving, Welcome, writes, does, closes, ends_by, Turned, turn_by, turn_ended, turn_in, turned, turned_again, turns_for, served, attached_by, attached_in}
 use Rattle.ra_grand_runs.specs.GrandClients.{GrandLink}
+use Rattle.ra_run_laws.proofs.Lists.{there_is}
+use Rattle.ra_link_laws.proofs.BadTurns.{second_is}
+use Rattle.ra_link_laws.proofs.HubMoves.{HubMoves, IsOwn, closed_by, turned_hub, attached_hub}
+use Rattle.ra_link_laws.proofs.SeatTurns.{TurnStands, Comes, made_admits, bad_admits, turned_stands, comes_nothing}
+use Rattle.ra_link_laws.proofs.ServedAdmissions.{attaches_going}
+use Rattle.ra_link_laws.proofs.ServedFocus.{Ground, Focus}
+use Rattle.ra_link_laws.proofs.ServedRuns.{link_after, Going, stands_going}
+use Rattle.ra_link_laws.proofs.ServedTurns.{seat_at, TurnsAt, turns_at}
 use Rattle.ra_grand_laws.specs.ChannelParts.{ChannelsOf, WorkFits}
 use Rattle.ra_grand_laws.specs.GoodEnds.{IsGoodEnd, IsGoodIfAny}
 use Rattle.ra_grand_laws.proofs.ServedHearing.{FedView, becomes_called, silent_end_if, becomes_turned, turn_fits, turn_good}

@@ -31,6 +31,16 @@ use Rattle.ra_grand_runs.specs.Grands.{Grand, Found}
 use Rattle.ra_grand_runs.specs.Marks.{whole}
 use Rattle.ra_grand_runs.specs.ServedLinks.{draw_at, serving_at, served, came_whole, left, settled as settled_link, piece_came}
 use Rattle.ra_grand_runs.specs.SetUps.{grounds}
+use Rattle.ra_run_laws.proofs.Lists.{there_is}
+use Rattle.ra_handshake_laws.specs.Handshakes.{request_for, OpensAt}
+use Rattle.ra_link_laws.specs.Parts.{EndStands, WorldKeeps}
+use Rattle.ra_link_laws.proofs.HubMoves.{HubAdmits, IsOwn, lost_by, admitted_hub}
+use Rattle.ra_link_laws.proofs.ServedAdmissions.{IsNew, HasAsked, admitted_link, admits_going}
+use Rattle.ra_link_laws.proofs.ServedFocus.{Ground, Focus}
+use Rattle.ra_link_laws.proofs.ServedOpenings.{IsShaking, opened_now, first_draw, come, fronts, opens_now, new_now, asked_now}
+use Rattle.ra_link_laws.proofs.ServedParts.{IsFound, part_at, ground_at, focus_at, own_seat, plain, seat_comes, shaking_at}
+use Rattle.ra_link_laws.proofs.ServedRuns.{Going}
+use Rattle.ra_link_laws.proofs.ServedTurns.{seat_at}
 use Rattle.ra_grand_laws.specs.ChannelParts.{ChannelsOf}
 use Rattle.ra_grand_laws.specs.GoodEnds.{IsGoodIfAny}
 use Rattle.ra_grand_laws.proofs.ServedChannels.{ClientEnd, KeepsChannels, more_jobs, served_good, attached_good}

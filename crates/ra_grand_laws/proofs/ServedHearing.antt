@@ -30,6 +30,8 @@ use Rattle.ra_channel_laws.proofs.Links.{server_still, server_silent}
 use Rattle.ra_channel_laws.proofs.ServerHearing.{server_turn, server_means}
 use Rattle.ra_channel_laws.proofs.Silence.{not_bad, silent_feed, silent_out, silent_end}
 use Rattle.ra_grand_runs.specs.SetUps.{context}
+use Rattle.ra_link_laws.proofs.SeatTurns.{made_admits, bad_admits}
+use Rattle.ra_link_laws.proofs.ServedMoves.{Admits}
 use Rattle.ra_grand_laws.specs.ChannelParts.{HearsNone, ChannelsOf}
 use Rattle.ra_grand_laws.proofs.WorksFit.{FitsIfAny, happening_fits, other_fits}
 

@@ -14,6 +14,7 @@ use Rattle.ra_channel_laws.specs.Channels.{ChannelsHold}
 use Rattle.ra_grand_runs.specs.GrandClients.{Client}
 use Rattle.ra_grand_runs.specs.Grands.{Grand}
 use Rattle.ra_grand_runs.specs.SetUps.{context}
+use Rattle.ra_run_laws.proofs.Lists.{none_there}
 use Rattle.ra_grand_laws.specs.ChannelParts.{IsOrBegins, ChannelsOf, ChannelsKeep}
 use Rattle.ra_grand_laws.specs.Settling.{Settles}
 use Rattle.ra_grand_laws.proofs.Settling.{settles_so}

@@ -20,15 +20,15 @@ use Rattle.ra_link_core.specs.LinkRuns.{request_refused, refused_by, Serving, We
 use Rattle.ra_link_core.specs.Makes.{Writes}
 use Rattle.ra_link_core.proofs.GrowLemmas.{writes_trans, writes_same, writes_refl}
 use Rattle.ra_grand_runs.specs.GrandClients.{GrandLink}
-use Rattle.ra_grand_laws.specs.Handshakes.{request_for, Speaks}
-use Rattle.ra_grand_laws.proofs.HubMoves.{HubMoves, others_trans, same_hub, attached_hub, next_is}
-use Rattle.ra_grand_laws.proofs.Lists.{there_is, none_there}
-use Rattle.ra_grand_laws.proofs.SeatTurns.{comes_nothing}
-use Rattle.ra_grand_laws.proofs.ServedAdmissions.{IsNew, over_now, HasAsked, refuses_stands, admitted_link, admits_going}
-use Rattle.ra_grand_laws.proofs.ServedFocus.{Ground, Focus}
-use Rattle.ra_grand_laws.proofs.ServedOpenings.{speaks_answer}
-use Rattle.ra_grand_laws.proofs.ServedRuns.{link_after, Going, focus_hub}
-use Rattle.ra_grand_laws.proofs.ServedTurns.{seat_at, focus_attached}
+use Rattle.ra_run_laws.proofs.Lists.{there_is, none_there}
+use Rattle.ra_handshake_laws.specs.Handshakes.{request_for, Speaks}
+use Rattle.ra_link_laws.proofs.HubMoves.{HubMoves, others_trans, same_hub, attached_hub, next_is}
+use Rattle.ra_link_laws.proofs.SeatTurns.{comes_nothing}
+use Rattle.ra_link_laws.proofs.ServedAdmissions.{IsNew, over_now, HasAsked, refuses_stands, admitted_link, admits_going}
+use Rattle.ra_link_laws.proofs.ServedFocus.{Ground, Focus}
+use Rattle.ra_link_laws.proofs.ServedOpenings.{speaks_answer}
+use Rattle.ra_link_laws.proofs.ServedRuns.{link_after, Going, focus_hub}
+use Rattle.ra_link_laws.proofs.ServedTurns.{seat_at, focus_attached}
 use Rattle.ra_grand_laws.proofs.ShortLinks.{IsKnown, NoneBehind}
 use Rattle.ra_grand_laws.proofs.ShortRuns.{Stop, StopAt, IsSpoiled, Stops, stops_trans, stops_none, stops_one, writes_call, one_more}
 use Rattle.ra_grand_laws.proofs.ShortTurns.{nothing_written, stop_on, served_stops}

@@ -25,6 +25,15 @@ use Rattle.ra_grand_runs.specs.Grands.{Grand, Found}
 use Rattle.ra_grand_runs.specs.Marks.{short}
 use Rattle.ra_grand_runs.specs.ServedLinks.{draw_at, serving_at, served, piece_came}
 use Rattle.ra_grand_runs.specs.SetUps.{grounds}
+use Rattle.ra_run_laws.proofs.Lists.{there_is}
+use Rattle.ra_handshake_laws.specs.Handshakes.{request_for, OpensAt}
+use Rattle.ra_link_laws.specs.Parts.{EndStands, WorldKeeps}
+use Rattle.ra_link_laws.proofs.ServedAdmissions.{IsNew, HasAsked, admitted_link, admits_going}
+use Rattle.ra_link_laws.proofs.ServedFocus.{Ground, Focus}
+use Rattle.ra_link_laws.proofs.ServedOpenings.{IsShaking, opened_now, first_draw, come, fronts, opens_now, new_now, asked_now}
+use Rattle.ra_link_laws.proofs.ServedParts.{IsFound, part_at, ground_at, focus_at, own_seat, plain, seat_comes, shaking_at}
+use Rattle.ra_link_laws.proofs.ServedRuns.{Going}
+use Rattle.ra_link_laws.proofs.ServedTurns.{seat_at}
 use Rattle.ra_grand_laws.specs.ChannelParts.{ChannelsOf}
 use Rattle.ra_grand_laws.proofs.ChannelFronts.{HubHolds, fronts_taken, HoldsBetween, between_same, between_event, between_both, served_between, attached_between}
 use Rattle.ra_grand_laws.proofs.ChannelSteps.{left_becomes}

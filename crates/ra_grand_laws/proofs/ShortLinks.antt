@@ -18,15 +18,15 @@ use Rattle.ra_hub.specs.Hubs.{Hub, row}
 use Rattle.ra_link_core.specs.LinkRuns.{Serving, Welcome}
 use Rattle.ra_grand_runs.specs.GrandClients.{GrandLink}
 use Rattle.ra_grand_runs.specs.Reached.{Begins}
-use Rattle.ra_grand_laws.specs.Handshakes.{Speaks}
-use Rattle.ra_grand_laws.specs.Parts.{Drawn, HasWelcome, IsWelcome, IsServer, LinkKeeps, WritesWhole}
-use Rattle.ra_grand_laws.proofs.HubMoves.{OthersStay}
-use Rattle.ra_grand_laws.proofs.LinksStay.{link_elsewhere}
-use Rattle.ra_grand_laws.proofs.Lists.{there_is, same_or_not, number_same}
-use Rattle.ra_grand_laws.proofs.ServedFocus.{Ground, StaysBelow, ReadsSame, Focus, below_itself}
-use Rattle.ra_grand_laws.proofs.ServedMoves.{focus_moved}
-use Rattle.ra_grand_laws.proofs.ServedRuns.{link_after, put_first, put_twice, Going}
-use Rattle.ra_grand_laws.proofs.ServedTexts.{Follows, IsPut, keeps_put, below_put, over_stands}
+use Rattle.ra_run_laws.proofs.Lists.{there_is, same_or_not, number_same}
+use Rattle.ra_handshake_laws.specs.Handshakes.{Speaks}
+use Rattle.ra_link_laws.specs.Parts.{Drawn, HasWelcome, IsWelcome, IsServer, LinkKeeps, WritesWhole}
+use Rattle.ra_link_laws.proofs.HubMoves.{OthersStay}
+use Rattle.ra_link_laws.proofs.LinksStay.{link_elsewhere}
+use Rattle.ra_link_laws.proofs.ServedFocus.{Ground, StaysBelow, ReadsSame, Focus, below_itself}
+use Rattle.ra_link_laws.proofs.ServedMoves.{focus_moved}
+use Rattle.ra_link_laws.proofs.ServedRuns.{link_after, put_first, put_twice, Going}
+use Rattle.ra_link_laws.proofs.ServedTexts.{Follows, IsPut, keeps_put, below_put, over_stands}
 use Rattle.ra_grand_laws.proofs.ShortSessions.{IsOff}
 use Rattle.ra_grand_laws.proofs.ShortViews.{with_front, HasLeft, view_front}
 

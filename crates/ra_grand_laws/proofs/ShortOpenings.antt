@@ -19,16 +19,15 @@ use Rattle.ra_grand_runs.specs.GrandClients.{GrandLink}
 use Rattle.ra_grand_runs.specs.Grands.{Grand}
 use Rattle.ra_grand_runs.specs.ServedLinks.{draw_at, serving_at, served}
 use Rattle.ra_grand_runs.specs.SetUps.{grounds}
-use Rattle.ra_grand_laws.specs.Handshakes.{request_for, OpensAt, Speaks}
-use Rattle.ra_grand_laws.specs.Parts.{EndStands}
-use Rattle.ra_grand_laws.proofs.HubMoves.{others_itself}
-use Rattle.ra_grand_laws.proofs.ServedAdmissions.{IsNew, HasAsked}
-use Rattle.ra_grand_laws.proofs.ServedFocus.{Ground, Focus}
-use Rattle.ra_grand_laws.proofs.ServedOpenings.{IsShaking, fronts, opened_now, opens_now, come, new_now, speaks_answer, speaks_nothing, asked_now}
-use Rattle.ra_grand_laws.proofs.ServedParts.{own_seat, plain, start}
-use Rattle.ra_grand_laws.proofs.ServedRuns.{link_after, put_first}
-use Rattle.ra_grand_laws.proofs.ServedTexts.{IsPut, follows_read}
-use Rattle.ra_grand_laws.proofs.ServedTurns.{seat_at, put_nothing}
+use Rattle.ra_handshake_laws.specs.Handshakes.{request_for, OpensAt, Speaks}
+use Rattle.ra_link_laws.specs.Parts.{EndStands}
+use Rattle.ra_link_laws.proofs.ServedAdmissions.{IsNew, HasAsked}
+use Rattle.ra_link_laws.proofs.ServedFocus.{Ground, Focus}
+use Rattle.ra_link_laws.proofs.ServedOpenings.{IsShaking, fronts, opened_now, opens_now, come, new_now, speaks_answer, speaks_nothing, asked_now}
+use Rattle.ra_link_laws.proofs.ServedParts.{own_seat, plain, start, shaking_at}
+use Rattle.ra_link_laws.proofs.ServedRuns.{link_after, put_first}
+use Rattle.ra_link_laws.proofs.ServedTexts.{IsPut}
+use Rattle.ra_link_laws.proofs.ServedTurns.{seat_at, put_nothing}
 use Rattle.ra_grand_laws.proofs.ShortAdmissions.{Stopped, stopped_by, stop_new, unknown, asked_stopped}
 use Rattle.ra_grand_laws.proofs.ShortRuns.{IsSpoiled, Stops, stops_none}
 use Rattle.ra_grand_laws.proofs.ShortTurns.{served_stops}

@@ -14,12 +14,13 @@ use Rattle.ra_grand_runs.specs.Grands.{Grand, Found, with_link}
 use Rattle.ra_grand_runs.specs.Marks.{short}
 use Rattle.ra_grand_runs.specs.Reached.{Begins}
 use Rattle.ra_grand_runs.specs.ServedLinks.{draw_at, serving_at, served, came, left, piece_came}
-use Rattle.ra_grand_laws.specs.Parts.{HasWelcome, IsWelcome, WorldKeeps}
-use Rattle.ra_grand_laws.proofs.Lists.{there_is}
-use Rattle.ra_grand_laws.proofs.ServedFocus.{Ground, Focus}
-use Rattle.ra_grand_laws.proofs.ServedParts.{IsFound, part_at, ground_at, focus_at, changes_by}
-use Rattle.ra_grand_laws.proofs.ServedRuns.{link_after}
-use Rattle.ra_grand_laws.proofs.ServedTexts.{follows_read}
+use Rattle.ra_run_laws.proofs.Lists.{there_is}
+use Rattle.ra_link_laws.specs.Parts.{HasWelcome, IsWelcome, WorldKeeps}
+use Rattle.ra_link_laws.proofs.ServedFocus.{Ground, Focus}
+use Rattle.ra_link_laws.proofs.ServedParts.{IsFound, part_at, ground_at, focus_at, changes_by}
+use Rattle.ra_link_laws.proofs.ServedRuns.{link_after}
+use Rattle.ra_link_laws.proofs.ServedTexts.{follows_read}
+use Rattle.ra_link_laws.proofs.WorldSteps.{Changes}
 use Rattle.ra_grand_laws.proofs.ShortAdmissions.{Stopped}
 use Rattle.ra_grand_laws.proofs.ShortLinks.{Begun, Fronts, front_going}
 use Rattle.ra_grand_laws.proofs.ShortOpenings.{served_stopped}

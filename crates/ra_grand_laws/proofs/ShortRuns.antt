@@ -16,10 +16,10 @@ use Rattle.ra_link_core.specs.LinkRuns.{End, refused_by, Serving, Welcome, does,
 use Rattle.ra_link_core.specs.Makes.{Writes}
 use Rattle.ra_link_core.proofs.GrowLemmas.{writes_trans, writes_refl}
 use Rattle.ra_grand_runs.specs.ServedLinks.{left}
-use Rattle.ra_grand_laws.proofs.HubMoves.{lost_by, closed_by}
-use Rattle.ra_grand_laws.proofs.ServedFocus.{Ground}
-use Rattle.ra_grand_laws.proofs.ServedRuns.{link_after, Going}
-use Rattle.ra_grand_laws.proofs.ServedTurns.{seat_at, Welcomed, welcomed_at}
+use Rattle.ra_link_laws.proofs.HubMoves.{lost_by, closed_by}
+use Rattle.ra_link_laws.proofs.ServedFocus.{Ground}
+use Rattle.ra_link_laws.proofs.ServedRuns.{link_after, Going}
+use Rattle.ra_link_laws.proofs.ServedTurns.{seat_at, Welcomed, welcomed_at}
 use Rattle.ra_grand_laws.proofs.ShortLinks.{NoneBehind, MayCut}
 use Rattle.ra_grand_laws.proofs.ShortSessions.{IsNear, IsOff, lost_off}
 

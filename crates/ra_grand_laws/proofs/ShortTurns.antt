@@ -18,11 +18,11 @@ use Rattle.ra_link_core.specs.LinkRuns.{End, refused_by, Serving, writes, does, 
 use Rattle.ra_link_core.specs.Makes.{Writes}
 use Rattle.ra_link_core.proofs.GrowLemmas.{writes_same, writes_refl}
 use Rattle.ra_grand_runs.specs.ServedLinks.{left}
-use Rattle.ra_grand_laws.proofs.HubMoves.{IsOwn, turned_hub}
-use Rattle.ra_grand_laws.proofs.ServedFocus.{Ground}
-use Rattle.ra_grand_laws.proofs.ServedRuns.{link_after, Going, stands_going, ends_so, closes_so}
-use Rattle.ra_grand_laws.proofs.ServedTurns.{seat_at, Welcomed, welcomed_at}
-use Rattle.ra_grand_laws.proofs.SeatTurns.{TurnStands, Comes, follows_piece, made_admits, bad_admits, made_going, spoiled_going, turned_stands, comes_nothing}
+use Rattle.ra_link_laws.proofs.HubMoves.{IsOwn, turned_hub}
+use Rattle.ra_link_laws.proofs.SeatTurns.{TurnStands, Comes, follows_piece, made_admits, bad_admits, made_going, spoiled_going, turned_stands, comes_nothing}
+use Rattle.ra_link_laws.proofs.ServedFocus.{Ground}
+use Rattle.ra_link_laws.proofs.ServedRuns.{link_after, Going, stands_going, ends_so, closes_so}
+use Rattle.ra_link_laws.proofs.ServedTurns.{seat_at, Welcomed, welcomed_at}
 use Rattle.ra_grand_laws.proofs.ShortRuns.{Stop, Stops, MayLeave, stops_trans, stops_none, stops_one, writes_call, one_more, closed_session, may_left}
 use Rattle.ra_grand_laws.proofs.ShortSessions.{IsOff, ends_off, turn_off, turn_near}
 

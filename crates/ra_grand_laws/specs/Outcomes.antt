@@ -11,10 +11,11 @@ use Rattle.ra_channel_laws.specs.Channels.{settled_in, fired_in}
 use Rattle.ra_script.specs.declared.grand_line.GrandEvent.{GrandEvent}
 use Rattle.ra_script.specs.declared.grand_line.GrandEvent.TheVariants as events
 use Rattle.ra_grand_runs.specs.GrandClients.{Client, dials}
-use Rattle.ra_grand_runs.specs.GrandRefusals.{Refusal, refusal}
+use Rattle.ra_grand_runs.specs.GrandRefusals.{refusal}
 use Rattle.ra_grand_runs.specs.GrandRuns.{after}
 use Rattle.ra_grand_runs.specs.Grands.{Grand}
 use Rattle.ra_grand_runs.specs.Marks.{Entry}
+use Rattle.ra_run_laws.specs.Runs.{unless}
 
 -- what a dialer's act hands up
 abbrev pub happening_of : Act → Option Happening

@@ -28,9 +28,9 @@ use Rattle.ra_dial.specs.Clients.{request_of}
 use Rattle.ra_dial.specs.Handshakes.{Looked, in_frame, on_step, on_frames, on_answer}
 use Rattle.ra_dial.specs.ShakingStates.{ShakingState}
 use Rattle.ra_grand_runs.specs.SetUps.{secret, shake_settings, settings_for, answer_with}
-use Rattle.ra_grand_laws.specs.Handshakes.{first_message, second_message, greeting, Speaks, LooksTo}
-use Rattle.ra_grand_laws.proofs.FrameFronts.{is_pause, pause-control, drop_behind, longer_begins, by_frame}
-use Rattle.ra_grand_laws.proofs.HandshakeTexts.{signed, sign_frame, refusal_frame, accept_frame, acceptance_parts, greets, front_more, behind_front, greeting_parts, greeting_read}
+use Rattle.ra_handshake_laws.specs.Handshakes.{first_message, second_message, greeting, Speaks, LooksTo}
+use Rattle.ra_handshake_laws.proofs.FrameFronts.{is_pause, pause-control, drop_behind, longer_begins, by_frame}
+use Rattle.ra_handshake_laws.proofs.HandshakeTexts.{signed, sign_frame, refusal_frame, accept_frame, acceptance_parts, greets, front_more, behind_front, greeting_parts, greeting_read}
 
 -- a handshake of the client with the challenge of these drawn bytes
 abbrev pub handshake_at : Key → (own : List ℕ) → Option (List ℕ) → Bool → (unread pause : List ℕ) → ShakingState

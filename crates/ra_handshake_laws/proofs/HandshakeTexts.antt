@@ -19,8 +19,8 @@ use Rattle.ra_opening.specs.Verdicts.{refusal_bytes, acceptance_bytes}
 use Rattle.ra_link_core.specs.LinkRuns.{Welcome, pause_bytes}
 use Rattle.ra_dial.specs.Handshakes.{in_frame}
 use Rattle.ra_grand_runs.specs.SetUps.{secret}
-use Rattle.ra_grand_laws.specs.Handshakes.{greeting, Speaks}
-use Rattle.ra_grand_laws.proofs.FrameFronts.{is_control}
+use Rattle.ra_handshake_laws.specs.Handshakes.{greeting, Speaks}
+use Rattle.ra_handshake_laws.proofs.FrameFronts.{is_control}
 
 -- the server's message
 abbrev pub signed : List ℕ → List ℕ → List ℕ

@@ -9,8 +9,8 @@ use Rattle.ra_dial.specs.Clients.{new_shaking, request_of}
 use Rattle.ra_dial.specs.Handshakes.{looked_at, fed}
 use Rattle.ra_dial.specs.ShakingStates.{ShakingState}
 use Rattle.ra_grand_runs.specs.SetUps.{settings_for, answer_head}
-use Rattle.ra_grand_laws.specs.Handshakes.{greeting, Speaks, HasHeard, ReadsHandshake, HasSaid}
-use Rattle.ra_grand_laws.proofs.HandshakeSteps.{handshake_at, ComesTo, on_waiting, on_greeted, on_judged}
+use Rattle.ra_handshake_laws.specs.Handshakes.{greeting, Speaks, HasHeard, ReadsHandshake, HasSaid}
+use Rattle.ra_handshake_laws.proofs.HandshakeSteps.{handshake_at, ComesTo, on_waiting, on_greeted, on_judged}
 
 -- a handshake is told by what it waits for, what it has not read, and the Pause
 is_at : (owner : Key) (key own read : List ℕ) (s : ShakingState) → ReadsHandshake owner key own read s

@@ -25,9 +25,9 @@ use Rattle.ra_opening.specs.Openings.Stage.{Shaking}
 use Rattle.ra_opening.proofs.RunLemmas.{opened_is}
 use Rattle.ra_dial.specs.Clients.{request_of}
 use Rattle.ra_grand_runs.specs.SetUps.{settings_for, request_head, grounds}
-use Rattle.ra_grand_laws.specs.Handshakes.{client_text, first_message, second_message, greeting, request_for, OpensAt}
-use Rattle.ra_grand_laws.proofs.FrameTexts.{IsProperFront, GoesPast, front_of_two, whole_or_short, short_items, nothing_items, frame_items}
-use Rattle.ra_grand_laws.proofs.ServerTexts.{first_body, second_body, first_fits, second_fits, waiting, judging, first_step_is, second_step_is, second_reason}
+use Rattle.ra_handshake_laws.specs.Handshakes.{client_text, first_message, second_message, greeting, request_for, OpensAt}
+use Rattle.ra_handshake_laws.proofs.FrameTexts.{IsProperFront, GoesPast, front_of_two, whole_or_short, short_items, nothing_items, frame_items}
+use Rattle.ra_handshake_laws.proofs.ServerTexts.{first_body, second_body, first_fits, second_fits, waiting, judging, first_step_is, second_step_is, second_reason}
 
 -- ---- how far a front of the request and the two messages goes
 

@@ -26,8 +26,8 @@ use Rattle.ra_shake.proofs.MadeLemmas.{made_len, made_utf8}
 use Rattle.ra_shake.proofs.ReadBackLemmas.{reading-connection_text}
 use Rattle.ra_shake.proofs.WholeLemmas.{server_first}
 use Rattle.ra_grand_runs.specs.SetUps.{secret, shake_settings}
-use Rattle.ra_grand_laws.specs.Handshakes.{request_for}
-use Rattle.ra_grand_laws.proofs.FrameTexts.{control_fits}
+use Rattle.ra_handshake_laws.specs.Handshakes.{request_for}
+use Rattle.ra_handshake_laws.proofs.FrameTexts.{control_fits}
 
 -- ---- the messages
 

@@ -23,14 +23,14 @@ use Rattle.ra_grand_runs.specs.GrandRuns.{bytes_up}
 use Rattle.ra_grand_runs.specs.Grands.{Grand, Found, find_link, on_link}
 use Rattle.ra_grand_runs.specs.Marks.{whole}
 use Rattle.ra_grand_runs.specs.ServedLinks.{draw_at, served, came_whole, left, settled, end_after, piece_came}
-use Rattle.ra_grand_laws.specs.Isolation.{Sight, judged, drawn_by, is_admit, jobs_for, piece_seen, up_seen, piece_drawn, own_after, alone}
-use Rattle.ra_grand_laws.proofs.IsolatedHubs.{Agree, agree_trans, Shortens, agree_left, other_left, own_shortens, agree_shortened}
-use Rattle.ra_grand_laws.proofs.IsolatedLinks.{by_found, link_own, link_other}
-use Rattle.ra_grand_laws.proofs.IsolatedOpenings.{draws_same, first_same}
-use Rattle.ra_grand_laws.proofs.IsolatedPieces.{ServeAlike}
-use Rattle.ra_grand_laws.proofs.IsolatedUps.{served_alone, serve_piece, beside_piece}
-use Rattle.ra_grand_laws.proofs.IsolatedWorlds.{found, Own, Alike, find_alone, own_is, Between}
-use Rattle.ra_grand_laws.proofs.OthersPieces.{row_by, Beside}
+use Rattle.ra_isolation_laws.specs.Isolation.{Sight, judged, drawn_by, is_admit, jobs_for, piece_seen, up_seen, piece_drawn, own_after, alone}
+use Rattle.ra_isolation_laws.proofs.IsolatedHubs.{Agree, agree_trans, Shortens, agree_left, other_left, own_shortens, agree_shortened}
+use Rattle.ra_isolation_laws.proofs.IsolatedLinks.{by_found, link_own, link_other}
+use Rattle.ra_isolation_laws.proofs.IsolatedOpenings.{draws_same, first_same}
+use Rattle.ra_isolation_laws.proofs.IsolatedPieces.{ServeAlike}
+use Rattle.ra_isolation_laws.proofs.IsolatedUps.{served_alone, serve_piece, beside_piece}
+use Rattle.ra_isolation_laws.proofs.IsolatedWorlds.{found, Own, Alike, find_alone, own_is, Between}
+use Rattle.ra_isolation_laws.proofs.OthersPieces.{row_by, Beside}
 
 -- ---- a link that is over is left
 

@@ -38,8 +38,8 @@ use Rattle.ra_grand_runs.specs.GrandClients.{GrandLink, Client, new_client, writ
 use Rattle.ra_grand_runs.specs.GrandRuns.{takes}
 use Rattle.ra_grand_runs.specs.Lasts.{with_last, with_last_of}
 use Rattle.ra_grand_runs.specs.SetUps.{context, answer_at}
-use Rattle.ra_grand_laws.specs.Parts.{IsAttached, IsWelcome, HasWelcome, LinkKeeps, StageKeeps, PartHolds}
-use Rattle.ra_grand_laws.proofs.Lists.{none_there, there_is}
+use Rattle.ra_run_laws.proofs.Lists.{none_there, there_is}
+use Rattle.ra_link_laws.specs.Parts.{IsAttached, IsWelcome, HasWelcome, LinkKeeps, StageKeeps, PartHolds}
 
 abbrev claims_in : Result Upgrade HeadFault → Bool
 claims_in (Ok upgrade) = upgrade.reconnection

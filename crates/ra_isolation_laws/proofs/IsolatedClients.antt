@@ -16,11 +16,11 @@ use Rattle.ra_grand_runs.specs.GrandClients.{GrandLink, Client, new_client, writ
 use Rattle.ra_grand_runs.specs.GrandRuns.{joins, with_place, links}
 use Rattle.ra_grand_runs.specs.Grands.{Grand, Place, changed, with_client}
 use Rattle.ra_grand_runs.specs.Lasts.{with_last, with_last_of}
-use Rattle.ra_grand_laws.specs.Isolation.{jobs_for, is_of, if_own, own_after, alone}
-use Rattle.ra_grand_laws.proofs.IsolatedClaims.{Moves, moves_dialer, moves_linked, moves_asked, claims_new}
-use Rattle.ra_grand_laws.proofs.IsolatedHubs.{Agree}
-use Rattle.ra_grand_laws.proofs.IsolatedWorlds.{own_places, one_more, at_end, there_small, Own, Mine, Alike, own_is, Between, own_step, left_put, others_step}
-use Rattle.ra_grand_laws.proofs.Lists.{none_there, there_is, get_front}
+use Rattle.ra_run_laws.proofs.Lists.{none_there, there_is, get_front}
+use Rattle.ra_isolation_laws.specs.Isolation.{jobs_for, is_of, if_own, own_after, alone}
+use Rattle.ra_isolation_laws.proofs.IsolatedClaims.{Moves, moves_dialer, moves_linked, moves_asked, claims_new}
+use Rattle.ra_isolation_laws.proofs.IsolatedHubs.{Agree}
+use Rattle.ra_isolation_laws.proofs.IsolatedWorlds.{own_places, one_more, at_end, there_small, Own, Mine, Alike, own_is, Between, own_step, left_put, others_step}
 
 -- ---- the links of a client keep their count
 

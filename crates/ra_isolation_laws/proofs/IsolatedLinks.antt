@@ -17,14 +17,14 @@ use Rattle.ra_grand_runs.specs.GrandClients.{GrandLink, Client}
 use Rattle.ra_grand_runs.specs.GrandRuns.{bytes_down, takes, comes_down, cuts, happens}
 use Rattle.ra_grand_runs.specs.Grands.{Grand, Place, Found, changed, found_link, found_client, found_at, find_link, on_link}
 use Rattle.ra_grand_runs.specs.ServedLinks.{draw_at, server_left}
-use Rattle.ra_grand_laws.specs.Isolation.{jobs_for, if_own, link_seen, alone}
-use Rattle.ra_grand_laws.specs.Parts.{EndStands, PartHolds}
-use Rattle.ra_grand_laws.proofs.IsolatedClaims.{claims_on, moves_link}
-use Rattle.ra_grand_laws.proofs.IsolatedClients.{len_dialled}
-use Rattle.ra_grand_laws.proofs.IsolatedHubs.{Agree, agree_trans, IsOf, agree_left, other_left}
-use Rattle.ra_grand_laws.proofs.IsolatedOpenings.{own_draws}
-use Rattle.ra_grand_laws.proofs.IsolatedWorlds.{own_places, found, Own, Alike, find_alone, own_is, Between, own_step, Left, left_put, others_step}
-use Rattle.ra_grand_laws.proofs.Lists.{none_there, get_same}
+use Rattle.ra_run_laws.proofs.Lists.{none_there, get_same}
+use Rattle.ra_link_laws.specs.Parts.{EndStands, PartHolds}
+use Rattle.ra_isolation_laws.specs.Isolation.{jobs_for, if_own, link_seen, alone}
+use Rattle.ra_isolation_laws.proofs.IsolatedClaims.{claims_on, moves_link}
+use Rattle.ra_isolation_laws.proofs.IsolatedClients.{len_dialled}
+use Rattle.ra_isolation_laws.proofs.IsolatedHubs.{Agree, agree_trans, IsOf, agree_left, other_left}
+use Rattle.ra_isolation_laws.proofs.IsolatedOpenings.{own_draws}
+use Rattle.ra_isolation_laws.proofs.IsolatedWorlds.{own_places, found, Own, Alike, find_alone, own_is, Between, own_step, Left, left_put, others_step}
 
 -- ---- a link that is looked for
 

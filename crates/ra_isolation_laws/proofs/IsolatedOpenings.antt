@@ -14,9 +14,9 @@ use Rattle.ra_dial.specs.Clients.{request_of}
 use Rattle.ra_grand_runs.specs.Draws.{own_then, first_draws}
 use Rattle.ra_grand_runs.specs.Reached.{read_of}
 use Rattle.ra_grand_runs.specs.SetUps.{settings_for, request_head, grounds}
-use Rattle.ra_grand_laws.specs.Handshakes.{client_text, first_message, second_message, request_for}
-use Rattle.ra_grand_laws.proofs.OpenedFronts.{Before, InFirst, InSecond, Whole, reach, ReachFor, first_read, opened_at, opened_exactly}
-use Rattle.ra_grand_laws.proofs.ServerTexts.{judging, second_reason}
+use Rattle.ra_handshake_laws.specs.Handshakes.{client_text, first_message, second_message, request_for}
+use Rattle.ra_handshake_laws.proofs.OpenedFronts.{Before, InFirst, InSecond, Whole, reach, ReachFor, first_read, opened_at, opened_exactly}
+use Rattle.ra_handshake_laws.proofs.ServerTexts.{judging, second_reason}
 
 -- ---- draws
 

@@ -12,20 +12,20 @@ use Rattle.ra_grand_runs.specs.GrandRefusals.{Refusal, refusal}
 use Rattle.ra_grand_runs.specs.GrandRuns.{happens, unless, after, run}
 use Rattle.ra_grand_runs.specs.Grands.{Grand, new_grand}
 use Rattle.ra_grand_runs.specs.Marks.{Mark, whole, short, unticked, Entry}
-use Rattle.ra_grand_laws.specs.Isolation.{Sight, moment, seen, unless_refused, view_of, alone_after, alone}
-use Rattle.ra_grand_laws.specs.Parted.{SamePart}
-use Rattle.ra_grand_laws.specs.Parts.{WorldKeeps}
-use Rattle.ra_grand_laws.specs.Runs.{IsUnbroken, IsWhole, AreWhole, HasKey, HaveKeys}
-use Rattle.ra_grand_laws.proofs.IsolatedArrivals.{alike_up, alike_idle}
-use Rattle.ra_grand_laws.proofs.IsolatedClients.{alike_dialled, alike_asked, alike_linked, alike_joined}
-use Rattle.ra_grand_laws.proofs.IsolatedHubs.{agree_itself}
-use Rattle.ra_grand_laws.proofs.IsolatedLinks.{alike_cut, alike_down, alike_gone}
-use Rattle.ra_grand_laws.proofs.IsolatedSweeps.{alike_swept}
-use Rattle.ra_grand_laws.proofs.IsolatedWork.{alike_worked}
-use Rattle.ra_grand_laws.proofs.IsolatedWorlds.{Alike, Between, left_itself, others_step, same_part}
-use Rattle.ra_grand_laws.proofs.Lists.{none_there}
-use Rattle.ra_grand_laws.proofs.Rising.{step_after}
-use Rattle.ra_grand_laws.proofs.RisingHubs.{HaveRows}
+use Rattle.ra_run_laws.specs.Runs.{IsUnbroken, IsWhole, AreWhole, HasKey, HaveKeys}
+use Rattle.ra_run_laws.proofs.Lists.{none_there}
+use Rattle.ra_run_laws.proofs.Rising.{step_after}
+use Rattle.ra_run_laws.proofs.RisingHubs.{HaveRows}
+use Rattle.ra_link_laws.specs.Parts.{WorldKeeps}
+use Rattle.ra_isolation_laws.specs.Isolation.{Sight, moment, seen, unless_refused, view_of, alone_after, alone}
+use Rattle.ra_isolation_laws.specs.Parted.{SamePart}
+use Rattle.ra_isolation_laws.proofs.IsolatedArrivals.{alike_up, alike_idle}
+use Rattle.ra_isolation_laws.proofs.IsolatedClients.{alike_dialled, alike_asked, alike_linked, alike_joined}
+use Rattle.ra_isolation_laws.proofs.IsolatedHubs.{agree_itself}
+use Rattle.ra_isolation_laws.proofs.IsolatedLinks.{alike_cut, alike_down, alike_gone}
+use Rattle.ra_isolation_laws.proofs.IsolatedSweeps.{alike_swept}
+use Rattle.ra_isolation_laws.proofs.IsolatedWork.{alike_worked}
+use Rattle.ra_isolation_laws.proofs.IsolatedWorlds.{Alike, Between, left_itself, others_step, same_part}
 
 -- ---- any event
 

@@ -31,8 +31,8 @@ use Rattle.ra_hub.specs.Sweeps.{grace_is_over, swept}
 use Rattle.ra_grand_runs.specs.GrandSweeps.{in_order, expired_keys, sweeps}
 use Rattle.ra_grand_runs.specs.Grands.{Grand}
 use Rattle.ra_grand_runs.specs.Marks.{whole}
-use Rattle.ra_grand_laws.proofs.IsolatedHubs.{Agree}
-use Rattle.ra_grand_laws.proofs.IsolatedWorlds.{Alike, Between, left_itself, others_step}
+use Rattle.ra_isolation_laws.proofs.IsolatedHubs.{Agree}
+use Rattle.ra_isolation_laws.proofs.IsolatedWorlds.{Alike, Between, left_itself, others_step}
 
 -- ---- a key that the history does not name
 

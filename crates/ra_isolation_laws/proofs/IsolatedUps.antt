@@ -22,15 +22,15 @@ use Rattle.ra_grand_runs.specs.Grands.{Grand}
 use Rattle.ra_grand_runs.specs.Reached.{read_of}
 use Rattle.ra_grand_runs.specs.ServedLinks.{draw_at, serving_at, served}
 use Rattle.ra_grand_runs.specs.SetUps.{settings_for, request_head, grounds}
-use Rattle.ra_grand_laws.specs.Handshakes.{client_text, request_for, OpensAt}
-use Rattle.ra_grand_laws.specs.Isolation.{drawn_by, jobs_for}
-use Rattle.ra_grand_laws.specs.Parts.{Drawn, HasWelcome, IsOpening, EndStands, LinkKeeps, PartHolds}
-use Rattle.ra_grand_laws.proofs.IsolatedClaims.{Claims, claims_on, any_at}
-use Rattle.ra_grand_laws.proofs.IsolatedHubs.{Agree, IsOf}
-use Rattle.ra_grand_laws.proofs.IsolatedOpenings.{draws_same, opened_same, front_up}
-use Rattle.ra_grand_laws.proofs.IsolatedPieces.{ServeAlike, serve_served, serve_asked}
-use Rattle.ra_grand_laws.proofs.OpenedFronts.{opens}
-use Rattle.ra_grand_laws.proofs.OthersPieces.{Beside, beside_served, beside_asked}
+use Rattle.ra_handshake_laws.specs.Handshakes.{client_text, request_for, OpensAt}
+use Rattle.ra_handshake_laws.proofs.OpenedFronts.{opens}
+use Rattle.ra_link_laws.specs.Parts.{Drawn, HasWelcome, IsOpening, EndStands, LinkKeeps, PartHolds}
+use Rattle.ra_isolation_laws.specs.Isolation.{drawn_by, jobs_for}
+use Rattle.ra_isolation_laws.proofs.IsolatedClaims.{Claims, claims_on, any_at}
+use Rattle.ra_isolation_laws.proofs.IsolatedHubs.{Agree, IsOf}
+use Rattle.ra_isolation_laws.proofs.IsolatedOpenings.{draws_same, opened_same, front_up}
+use Rattle.ra_isolation_laws.proofs.IsolatedPieces.{ServeAlike, serve_served, serve_asked, serve_at_end}
+use Rattle.ra_isolation_laws.proofs.OthersPieces.{Beside, beside_served, beside_asked}
 use Rattle.std.specs.Prelude.{slice_get}
 
 -- ---- the opening of a link of the key

@@ -15,11 +15,11 @@ use Rattle.ra_script.specs.declared.grand_line.GrandEvent.TheVariants as events
 use Rattle.ra_grand_runs.specs.GrandRuns.{happens}
 use Rattle.ra_grand_runs.specs.Grands.{Grand}
 use Rattle.ra_grand_runs.specs.Works.{Telling, told, telling, telling_refusal, Told, told_to, told_by, session_by, unless_ended, misses, tells, without_job, work_by, worked}
-use Rattle.ra_grand_laws.specs.Isolation.{jobs_for, if_own, job_seen, alone}
-use Rattle.ra_grand_laws.proofs.IsolatedHubs.{Agree, agree_itself, agree_trans, agree_enter, agree_at, other_at, other_missed}
-use Rattle.ra_grand_laws.proofs.IsolatedJobs.{Among, among, not_among}
-use Rattle.ra_grand_laws.proofs.IsolatedWorlds.{Alike, Between, left_itself, others_step}
-use Rattle.ra_grand_laws.proofs.Lists.{none_there}
+use Rattle.ra_run_laws.proofs.Lists.{none_there}
+use Rattle.ra_isolation_laws.specs.Isolation.{jobs_for, if_own, job_seen, alone}
+use Rattle.ra_isolation_laws.proofs.IsolatedHubs.{Agree, agree_itself, agree_trans, agree_enter, agree_at, other_at, other_missed}
+use Rattle.ra_isolation_laws.proofs.IsolatedJobs.{Among, among, not_among}
+use Rattle.ra_isolation_laws.proofs.IsolatedWorlds.{Alike, Between, left_itself, others_step}
 
 -- only the hub is another
 record Stays (x v : Grand) : Type 0 where

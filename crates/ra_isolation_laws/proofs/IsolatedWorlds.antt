@@ -10,14 +10,13 @@ use Rattle.ra_hub.specs.Hubs.{row}
 use Rattle.ra_hub.specs.Jobs.{SeenJob}
 use Rattle.ra_grand_runs.specs.GrandClients.{GrandLink, Client}
 use Rattle.ra_grand_runs.specs.Grands.{Grand, Place, Found, found_at, found_client, found_link, find_link}
-use Rattle.ra_grand_laws.specs.Isolation.{jobs_for}
-use Rattle.ra_grand_laws.specs.Parted.{SamePart, clients_for}
-use Rattle.ra_grand_laws.specs.Parts.{PartHolds, WorldKeeps}
-use Rattle.ra_grand_laws.specs.Rising.{HubRises}
-use Rattle.ra_grand_laws.proofs.IsolatedClaims.{Claims, Moves, claims_move}
-use Rattle.ra_grand_laws.proofs.IsolatedHubs.{Agree}
-use Rattle.ra_grand_laws.proofs.Lists.{none_there, there_is, same_or_not, get_same, get_other, get_front}
-use Rattle.ra_grand_laws.proofs.WorldSteps.{by_bool}
+use Rattle.ra_run_laws.specs.Rising.{HubRises}
+use Rattle.ra_run_laws.proofs.Lists.{none_there, there_is, same_or_not, get_same, get_other, get_front, by_bool}
+use Rattle.ra_link_laws.specs.Parts.{PartHolds, WorldKeeps}
+use Rattle.ra_isolation_laws.specs.Isolation.{jobs_for}
+use Rattle.ra_isolation_laws.specs.Parted.{SamePart, clients_for}
+use Rattle.ra_isolation_laws.proofs.IsolatedClaims.{Claims, Moves, claims_move}
+use Rattle.ra_isolation_laws.proofs.IsolatedHubs.{Agree}
 
 -- ---- the world of one client
 

@@ -5,7 +5,7 @@ use Rattle.ra_registry.specs.Rows.{same_key}
 use Rattle.ra_hub.specs.Hubs.{row}
 use Rattle.ra_grand_runs.specs.GrandClients.{Client}
 use Rattle.ra_grand_runs.specs.Grands.{Grand}
-use Rattle.ra_grand_laws.specs.Isolation.{jobs_for}
+use Rattle.ra_isolation_laws.specs.Isolation.{jobs_for}
 
 abbrev pub clients_for : Key → List Client → List Client
 clients_for key clients = filter (λ c. same_key key c.key) clients

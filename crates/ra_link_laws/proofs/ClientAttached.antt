@@ -32,12 +32,12 @@ use Rattle.ra_dial.specs.Attempts.{Step, rest_or_drop}
 use Rattle.ra_dial.specs.Dialers.{Dialer}
 use Rattle.ra_dial.specs.Links.{tick_span, loses, act_after, after_turn, turns_unless, turns, ticks_unless, ticks, leaves_unless, leaves}
 use Rattle.ra_grand_runs.specs.GrandClients.{Client}
-use Rattle.ra_grand_laws.specs.Parts.{PartHolds}
-use Rattle.ra_grand_laws.proofs.BadTurns.{turn_feeds, feeds_going, bad_quiet}
-use Rattle.ra_grand_laws.proofs.ClientGrounds.{Ground, After, with_stage, ground_of}
-use Rattle.ra_grand_laws.proofs.ClientLinks.{Here, here_of}
-use Rattle.ra_grand_laws.proofs.ClientSends.{attached_on, left_over, rests}
-use Rattle.ra_grand_laws.proofs.SessionLinkMoves.{nothing_up}
+use Rattle.ra_link_laws.specs.Parts.{PartHolds}
+use Rattle.ra_link_laws.proofs.BadTurns.{turn_feeds, feeds_going, bad_quiet}
+use Rattle.ra_link_laws.proofs.ClientGrounds.{Ground, After, with_stage, ground_of}
+use Rattle.ra_link_laws.proofs.ClientLinks.{Here, here_of}
+use Rattle.ra_link_laws.proofs.ClientSends.{attached_on, left_over, rests}
+use Rattle.ra_link_laws.proofs.SessionLinkMoves.{nothing_up}
 
 -- the client as it is while it is attached
 abbrev pub live : Client → Client

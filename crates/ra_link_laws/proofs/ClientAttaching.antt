@@ -23,11 +23,11 @@ use Rattle.ra_dial.specs.Dialers.{Dialer, epoch}
 use Rattle.ra_dial.specs.Links.{next_epoch, attaches_unless, attaches}
 use Rattle.ra_grand_runs.specs.GrandClients.{GrandLink, Client}
 use Rattle.ra_grand_runs.specs.Reached.{read_of}
-use Rattle.ra_grand_laws.specs.Parts.{Carries, IsWelcome, HasWelcome}
-use Rattle.ra_grand_laws.proofs.SessionLinkMoves.{backs_put, texts_put, nothing_up, whole_back}
-use Rattle.ra_grand_laws.proofs.ClientLinks.{Here, links_renewed}
-use Rattle.ra_grand_laws.proofs.ClientSends.{attached_on, put_again, rests}
-use Rattle.ra_grand_laws.proofs.ClientGrounds.{Ground, After}
+use Rattle.ra_link_laws.specs.Parts.{Carries, IsWelcome, HasWelcome}
+use Rattle.ra_link_laws.proofs.ClientGrounds.{Ground, After}
+use Rattle.ra_link_laws.proofs.ClientLinks.{Here, links_renewed}
+use Rattle.ra_link_laws.proofs.ClientSends.{attached_on, put_again, rests}
+use Rattle.ra_link_laws.proofs.SessionLinkMoves.{backs_put, texts_put, nothing_up, whole_back}
 
 -- ---- the bytes behind the handshake
 

@@ -16,10 +16,10 @@ use Rattle.ra_dial.specs.declared.stage.Stage.TheVariants as stages
 use Rattle.ra_dial.specs.ShakingStates.{ShakingState}
 use Rattle.ra_grand_runs.specs.GrandClients.{GrandLink, Client}
 use Rattle.ra_grand_runs.specs.Grands.{with_link}
-use Rattle.ra_grand_laws.specs.Parts.{Drawn, HasWelcome, Shakes, IsAttached, StageKeeps, PartHolds}
-use Rattle.ra_grand_laws.proofs.ClientGrounds.{ground_of, part_made}
-use Rattle.ra_grand_laws.proofs.ClientLinks.{links_cut, last_put}
-use Rattle.ra_grand_laws.proofs.SessionLinkMoves.{ReadsBack, CutBy, cut_backs, cut_reads}
+use Rattle.ra_link_laws.specs.Parts.{Drawn, HasWelcome, Shakes, IsAttached, StageKeeps, PartHolds}
+use Rattle.ra_link_laws.proofs.ClientGrounds.{ground_of, part_made}
+use Rattle.ra_link_laws.proofs.ClientLinks.{links_cut, last_put}
+use Rattle.ra_link_laws.proofs.SessionLinkMoves.{ReadsBack, CutBy, cut_backs, cut_reads}
 
 -- the session's links after it
 record Cut (owner : Key) (d : Drawn) (number present : ℕ) (p peer : Peer) (session_links : List Link) (l : GrandLink) : Type 0 where

@@ -20,8 +20,8 @@ use Rattle.ra_dial.specs.Attempts.{Step}
 use Rattle.ra_dial.specs.Dialers.{Dialer}
 use Rattle.ra_grand_runs.specs.GrandClients.{GrandLink, Client, sends}
 use Rattle.ra_grand_runs.specs.SetUps.{settings_for}
-use Rattle.ra_grand_laws.specs.Parts.{Drawn, LinkKeeps, StageKeeps, IsServer, WritesWhole, PartHolds}
-use Rattle.ra_grand_laws.proofs.SessionLinkMoves.{Backs, whole_back}
+use Rattle.ra_link_laws.specs.Parts.{Drawn, LinkKeeps, StageKeeps, IsServer, WritesWhole, PartHolds}
+use Rattle.ra_link_laws.proofs.SessionLinkMoves.{Backs, whole_back}
 
 -- the links of a client
 pub record LinksKeep (owner : Key) (draws : ℕ → Drawn) (session_links : List Link) (present number attached : ℕ) (links : List GrandLink) : Type 0 where

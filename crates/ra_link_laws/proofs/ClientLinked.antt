@@ -32,15 +32,15 @@ use Rattle.ra_dial.specs.Clients.{Settings, request_of, new_shaking}
 use Rattle.ra_dial.specs.Table.{step, on_event, is_late, draws_by}
 use Rattle.ra_grand_runs.specs.GrandClients.{Client, dialled, fresh_link, linked, new_client}
 use Rattle.ra_grand_runs.specs.SetUps.{context}
-use Rattle.ra_grand_laws.specs.Handshakes.{ReadsHandshake, HasSaid}
-use Rattle.ra_grand_laws.specs.Parts.{Drawn, PartHolds}
-use Rattle.ra_grand_laws.proofs.Handshaking.{begins as handshake_begins}
-use Rattle.ra_grand_laws.proofs.ClientAttached.{after_if}
-use Rattle.ra_grand_laws.proofs.ClientGrounds.{Ground, with_stage, ground_of}
-use Rattle.ra_grand_laws.proofs.ClientSends.{rests}
-use Rattle.ra_grand_laws.proofs.ClientShakes.{shakes_on}
-use Rattle.ra_grand_laws.proofs.FreshLinks.{drawn_next, draws_with, draw_there, get_last, links_fresh}
-use Rattle.ra_grand_laws.proofs.Lists.{none_there}
+use Rattle.ra_run_laws.proofs.Lists.{none_there}
+use Rattle.ra_handshake_laws.specs.Handshakes.{ReadsHandshake, HasSaid}
+use Rattle.ra_handshake_laws.proofs.Handshaking.{begins as handshake_begins}
+use Rattle.ra_link_laws.specs.Parts.{Drawn, PartHolds}
+use Rattle.ra_link_laws.proofs.ClientAttached.{after_if}
+use Rattle.ra_link_laws.proofs.ClientGrounds.{Ground, with_stage, ground_of}
+use Rattle.ra_link_laws.proofs.ClientSends.{rests}
+use Rattle.ra_link_laws.proofs.ClientShakes.{shakes_on}
+use Rattle.ra_link_laws.proofs.FreshLinks.{drawn_next, draws_with, draw_there, get_last, links_fresh}
 
 -- ---- a link more
 

@@ -8,11 +8,11 @@ use Rattle.ra_model.proofs.Numbers.{get_within}
 use Rattle.ra_link_core.specs.LinkRuns.{Welcome}
 use Rattle.ra_grand_runs.specs.GrandClients.{GrandLink, writes_up}
 use Rattle.ra_grand_runs.specs.Lasts.{with_last_of, with_last}
-use Rattle.ra_grand_laws.specs.Parts.{Drawn, Carries, IsWelcome, HasWelcome, LinkKeeps, HasLast}
-use Rattle.ra_grand_laws.proofs.ClientGrounds.{LinksKeep}
-use Rattle.ra_grand_laws.proofs.SessionLinkMoves.{Backs, SameTexts, CutBy, link_renewed, link_cut, link_down, link_up}
-use Rattle.ra_grand_laws.proofs.LinksStay.{link_elsewhere}
-use Rattle.ra_grand_laws.proofs.Lists.{none_there, there_is, same_or_not, get_same, get_other}
+use Rattle.ra_run_laws.proofs.Lists.{none_there, there_is, same_or_not, get_same, get_other}
+use Rattle.ra_link_laws.specs.Parts.{Drawn, Carries, IsWelcome, HasWelcome, LinkKeeps, HasLast}
+use Rattle.ra_link_laws.proofs.ClientGrounds.{LinksKeep}
+use Rattle.ra_link_laws.proofs.LinksStay.{link_elsewhere}
+use Rattle.ra_link_laws.proofs.SessionLinkMoves.{Backs, SameTexts, CutBy, link_renewed, link_cut, link_down, link_up}
 
 -- ---- the last of a list
 

@@ -22,14 +22,14 @@ use Rattle.ra_dial.specs.ShakingStates.{ShakingState}
 use Rattle.ra_grand_runs.specs.GrandClients.{GrandLink, Client}
 use Rattle.ra_grand_runs.specs.Reached.{Begins, read_of}
 use Rattle.ra_grand_runs.specs.SetUps.{answer_head}
-use Rattle.ra_grand_laws.specs.Handshakes.{HasSaid, LooksTo}
-use Rattle.ra_grand_laws.specs.Parts.{Drawn, IsWelcome, HasWelcome, Shakes}
-use Rattle.ra_grand_laws.proofs.Handshaking.{looks}
-use Rattle.ra_grand_laws.proofs.ClientAttaching.{attaches_on}
-use Rattle.ra_grand_laws.proofs.ClientGrounds.{Ground, After}
-use Rattle.ra_grand_laws.proofs.ClientSends.{rests}
-use Rattle.ra_grand_laws.proofs.ClientShakes.{shakes_on}
-use Rattle.ra_grand_laws.proofs.ClientTexts.{IsQuiet, said_all, quiet_look}
+use Rattle.ra_handshake_laws.specs.Handshakes.{HasSaid, LooksTo}
+use Rattle.ra_handshake_laws.proofs.Handshaking.{looks}
+use Rattle.ra_link_laws.specs.Parts.{Drawn, IsWelcome, HasWelcome, Shakes}
+use Rattle.ra_link_laws.proofs.ClientAttaching.{attaches_on}
+use Rattle.ra_link_laws.proofs.ClientGrounds.{Ground, After}
+use Rattle.ra_link_laws.proofs.ClientSends.{rests}
+use Rattle.ra_link_laws.proofs.ClientShakes.{shakes_on}
+use Rattle.ra_link_laws.proofs.ClientTexts.{IsQuiet, said_all, quiet_look}
 
 -- what was read of the server's text is a front of it
 read_front : (out : List ℕ) (l : Link) (b : Begins out l.to_a.written) → read_of l.to_a ++ (drop l.to_a.read l.to_a.written ++ b.rest) ≡ out

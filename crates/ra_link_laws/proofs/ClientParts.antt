@@ -21,11 +21,11 @@ use Rattle.ra_grand_runs.specs.Draws.{draws_after}
 use Rattle.ra_grand_runs.specs.GrandClients.{Client, dialled, asked}
 use Rattle.ra_grand_runs.specs.Reached.{BringsNothing}
 use Rattle.ra_grand_runs.specs.SetUps.{answer_at}
-use Rattle.ra_grand_laws.specs.Parts.{PartHolds}
-use Rattle.ra_grand_laws.proofs.ClientAttached.{live_of, called_on, same_on, loses_on, ticks_on, leaves_on, turns_on, after_if}
-use Rattle.ra_grand_laws.proofs.ClientGrounds.{After, with_stage, ground_of}
-use Rattle.ra_grand_laws.proofs.ClientLooks.{frame_shakes}
-use Rattle.ra_grand_laws.proofs.ClientSends.{IsApart, rests}
+use Rattle.ra_link_laws.specs.Parts.{PartHolds}
+use Rattle.ra_link_laws.proofs.ClientAttached.{live_of, called_on, same_on, loses_on, ticks_on, leaves_on, turns_on, after_if}
+use Rattle.ra_link_laws.proofs.ClientGrounds.{After, with_stage, ground_of}
+use Rattle.ra_link_laws.proofs.ClientLooks.{frame_shakes}
+use Rattle.ra_link_laws.proofs.ClientSends.{IsApart, rests}
 
 -- ---- a client whose session is not attached
 

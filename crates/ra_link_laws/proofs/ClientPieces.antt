@@ -28,17 +28,17 @@ use Rattle.ra_grand_runs.specs.GrandClients.{GrandLink, Client, dialled}
 use Rattle.ra_grand_runs.specs.GrandRuns.{takes}
 use Rattle.ra_grand_runs.specs.Grands.{with_link}
 use Rattle.ra_grand_runs.specs.Reached.{read_of}
-use Rattle.ra_grand_laws.specs.Handshakes.{ReadsHandshake, HasSaid}
-use Rattle.ra_grand_laws.specs.Parts.{Drawn, Carries, Shakes, IsAttached, StageKeeps, HasLast, PartHolds}
-use Rattle.ra_grand_laws.proofs.Handshaking.{feeds}
-use Rattle.ra_grand_laws.proofs.Lists.{there_is, get_same}
-use Rattle.ra_grand_laws.proofs.BadTurns.{feeds_going, going_feeds}
-use Rattle.ra_grand_laws.proofs.ClientAttached.{IsLive, live, live_of, after_if, view_nothing}
-use Rattle.ra_grand_laws.proofs.ClientGrounds.{Ground, After, with_stage, ground_of, part_made}
-use Rattle.ra_grand_laws.proofs.ClientLinks.{Here, last_len, last_behind, links_down, links_renewed}
-use Rattle.ra_grand_laws.proofs.ClientSends.{attached_on, rests}
-use Rattle.ra_grand_laws.proofs.ClientShakes.{shakes_on}
-use Rattle.ra_grand_laws.proofs.SessionLinkMoves.{backs_itself, backs_put, texts_put, whole_back, read_more}
+use Rattle.ra_run_laws.proofs.Lists.{there_is, get_same}
+use Rattle.ra_handshake_laws.specs.Handshakes.{ReadsHandshake, HasSaid}
+use Rattle.ra_handshake_laws.proofs.Handshaking.{feeds}
+use Rattle.ra_link_laws.specs.Parts.{Drawn, Carries, Shakes, IsAttached, StageKeeps, HasLast, PartHolds}
+use Rattle.ra_link_laws.proofs.BadTurns.{feeds_going, going_feeds}
+use Rattle.ra_link_laws.proofs.ClientAttached.{IsLive, live, live_of, after_if, view_nothing}
+use Rattle.ra_link_laws.proofs.ClientGrounds.{Ground, After, with_stage, ground_of, part_made}
+use Rattle.ra_link_laws.proofs.ClientLinks.{Here, last_len, last_behind, links_down, links_renewed}
+use Rattle.ra_link_laws.proofs.ClientSends.{attached_on, rests}
+use Rattle.ra_link_laws.proofs.ClientShakes.{shakes_on}
+use Rattle.ra_link_laws.proofs.SessionLinkMoves.{backs_itself, backs_put, texts_put, whole_back, read_more}
 
 -- the link, of which so many bytes more were read
 abbrev pub read_by : ℕ → GrandLink → GrandLink

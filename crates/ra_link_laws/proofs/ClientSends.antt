@@ -21,11 +21,11 @@ use Rattle.ra_dial.specs.Acts.{Act}
 use Rattle.ra_dial.specs.Dialers.{Dialer}
 use Rattle.ra_grand_runs.specs.GrandClients.{GrandLink, Client, writes_up}
 use Rattle.ra_grand_runs.specs.Lasts.{with_last_of, with_last}
-use Rattle.ra_grand_laws.specs.Parts.{StageKeeps, PartHolds}
-use Rattle.ra_grand_laws.proofs.Lists.{there_is, get_same}
-use Rattle.ra_grand_laws.proofs.SessionLinkMoves.{backs_itself, backs_put, nothing_link}
-use Rattle.ra_grand_laws.proofs.ClientLinks.{Here, last_is, links_up}
-use Rattle.ra_grand_laws.proofs.ClientGrounds.{Ground, After, part_made}
+use Rattle.ra_run_laws.proofs.Lists.{there_is, get_same}
+use Rattle.ra_link_laws.specs.Parts.{StageKeeps, PartHolds}
+use Rattle.ra_link_laws.proofs.ClientGrounds.{Ground, After, part_made}
+use Rattle.ra_link_laws.proofs.ClientLinks.{Here, last_is, links_up}
+use Rattle.ra_link_laws.proofs.SessionLinkMoves.{backs_itself, backs_put, nothing_link}
 
 -- ---- nothing is written
 

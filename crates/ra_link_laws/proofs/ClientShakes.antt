@@ -14,13 +14,13 @@ use Rattle.ra_dial.specs.ShakingStates.{ShakingState}
 use Rattle.ra_grand_runs.specs.GrandClients.{GrandLink, Client, writes_up}
 use Rattle.ra_grand_runs.specs.Lasts.{with_last}
 use Rattle.ra_grand_runs.specs.Reached.{Begins, read_of}
-use Rattle.ra_grand_laws.specs.Handshakes.{client_text, ReadsHandshake, HasSaid}
-use Rattle.ra_grand_laws.specs.Parts.{LinkKeeps, PartHolds}
-use Rattle.ra_grand_laws.proofs.Lists.{get_same}
-use Rattle.ra_grand_laws.proofs.SessionLinkMoves.{backs_itself, link_said}
-use Rattle.ra_grand_laws.proofs.ClientLinks.{last_is, links_put_one}
-use Rattle.ra_grand_laws.proofs.ClientGrounds.{Ground, After, part_made}
-use Rattle.ra_grand_laws.proofs.ClientTexts.{said_front}
+use Rattle.ra_run_laws.proofs.Lists.{get_same}
+use Rattle.ra_handshake_laws.specs.Handshakes.{client_text, ReadsHandshake, HasSaid}
+use Rattle.ra_link_laws.specs.Parts.{LinkKeeps, PartHolds}
+use Rattle.ra_link_laws.proofs.ClientGrounds.{Ground, After, part_made}
+use Rattle.ra_link_laws.proofs.ClientLinks.{last_is, links_put_one}
+use Rattle.ra_link_laws.proofs.ClientTexts.{said_front}
+use Rattle.ra_link_laws.proofs.SessionLinkMoves.{backs_itself, link_said}
 
 -- of a text that was said, what came on the link, once more is said and written
 put_more : (cut : Bool) (text written bytes : List ℕ) → Begins text written → (cut ≡ false → written ≡ text) → Begins (text ++ bytes) (written ++ cond cut [] bytes)

@@ -18,7 +18,7 @@ use Rattle.ra_dial.specs.Clients.{Settings, request_of}
 use Rattle.ra_dial.specs.Handshakes.{Head, Look, is_open, goes_on, fails, refuses, accepts, in_frame, on_step, on_frame, on_first, on_frames, on_unread, on_shaking}
 use Rattle.ra_dial.specs.ShakingStates.{ShakingState}
 use Rattle.ra_grand_runs.specs.SetUps.{settings_for}
-use Rattle.ra_grand_laws.specs.Handshakes.{client_text, first_message, second_message, HasSaid}
+use Rattle.ra_handshake_laws.specs.Handshakes.{client_text, first_message, second_message, HasSaid}
 
 -- ---- the text
 

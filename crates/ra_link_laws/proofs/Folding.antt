@@ -27,18 +27,18 @@ use Rattle.ra_grand_runs.specs.Grands.{Grand, Found, with_client, with_link, new
 use Rattle.ra_grand_runs.specs.Marks.{Mark, whole, short, unticked, Entry}
 use Rattle.ra_grand_runs.specs.Reached.{BringsNothing}
 use Rattle.ra_grand_runs.specs.ServedLinks.{piece_came, server_left}
-use Rattle.ra_grand_laws.specs.Parts.{PartHolds, WorldKeeps}
-use Rattle.ra_grand_laws.specs.Runs.{IsUnbroken, HasKey}
-use Rattle.ra_grand_laws.proofs.ClientCuts.{part_cut}
-use Rattle.ra_grand_laws.proofs.ClientLinked.{part_linked, part_new}
-use Rattle.ra_grand_laws.proofs.ClientParts.{part_asked, part_dialled}
-use Rattle.ra_grand_laws.proofs.ClientPieces.{part_down}
-use Rattle.ra_grand_laws.proofs.HubSteps.{keeps_sweep, keeps_work}
-use Rattle.ra_grand_laws.proofs.Lists.{none_there, there_is}
-use Rattle.ra_grand_laws.proofs.ServedParts.{piece_changes, left_changes}
-use Rattle.ra_grand_laws.proofs.WorldClients.{world_client, world_place, world_joins}
-use Rattle.ra_grand_laws.proofs.WorldLinks.{IsHere, StandsAt, stands_at, world_link, world_cuts, world_down, chosen}
-use Rattle.ra_grand_laws.proofs.WorldSteps.{world_changes}
+use Rattle.ra_run_laws.specs.Runs.{IsUnbroken, HasKey}
+use Rattle.ra_run_laws.proofs.Lists.{none_there, there_is}
+use Rattle.ra_link_laws.specs.Parts.{PartHolds, WorldKeeps}
+use Rattle.ra_link_laws.proofs.ClientCuts.{part_cut}
+use Rattle.ra_link_laws.proofs.ClientLinked.{part_linked, part_new}
+use Rattle.ra_link_laws.proofs.ClientParts.{part_asked, part_dialled}
+use Rattle.ra_link_laws.proofs.ClientPieces.{part_down}
+use Rattle.ra_link_laws.proofs.HubSteps.{keeps_sweep, keeps_work}
+use Rattle.ra_link_laws.proofs.ServedParts.{piece_changes, left_changes}
+use Rattle.ra_link_laws.proofs.WorldClients.{world_client, world_place, world_joins}
+use Rattle.ra_link_laws.proofs.WorldLinks.{IsHere, StandsAt, stands_at, world_link, world_cuts, world_down, chosen}
+use Rattle.ra_link_laws.proofs.WorldSteps.{world_changes}
 
 -- ---- clients
 

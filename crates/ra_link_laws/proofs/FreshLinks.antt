@@ -21,10 +21,10 @@ use Rattle.ra_dial.specs.Dialers.{epoch}
 use Rattle.ra_grand_runs.specs.Draws.{nth_draw, draws_after, first_draws}
 use Rattle.ra_grand_runs.specs.GrandClients.{GrandLink, Client, fresh_link}
 use Rattle.ra_grand_runs.specs.SetUps.{settings_for, request_head, grounds}
-use Rattle.ra_grand_laws.specs.Handshakes.{client_text, greeting}
-use Rattle.ra_grand_laws.specs.Parts.{Drawn, IsWaiting, LinkKeeps}
-use Rattle.ra_grand_laws.proofs.ClientGrounds.{LinksKeep}
-use Rattle.ra_grand_laws.proofs.Lists.{none_there, there_is}
+use Rattle.ra_run_laws.proofs.Lists.{none_there, there_is}
+use Rattle.ra_handshake_laws.specs.Handshakes.{client_text, greeting}
+use Rattle.ra_link_laws.specs.Parts.{Drawn, IsWaiting, LinkKeeps}
+use Rattle.ra_link_laws.proofs.ClientGrounds.{LinksKeep}
 
 -- ---- draws
 

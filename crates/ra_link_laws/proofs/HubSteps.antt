@@ -19,13 +19,15 @@ use Rattle.ra_grand_runs.specs.GrandClients.{Client}
 use Rattle.ra_grand_runs.specs.Grands.{Grand}
 use Rattle.ra_grand_runs.specs.GrandSweeps.{expired_keys, left_by, sweeps}
 use Rattle.ra_grand_runs.specs.Marks.{Mark}
-use Rattle.ra_grand_runs.specs.Works.{Telling, answers, speaks, told, telling, telling_refusal, Told, told_to, told_by, session_by, unless_ended, misses, tells, without_job, work_by, worked}
-use Rattle.ra_grand_laws.specs.KeptRows.{RowsAgree}
-use Rattle.ra_grand_laws.specs.Parts.{PartHolds, WorldKeeps}
-use Rattle.ra_grand_laws.proofs.KeptRows.{agree_itself, entry_agrees, expiries_agree}
-use Rattle.ra_grand_laws.proofs.SessionCallsKept.{kept_end, kept_tick, kept_answer, kept_say}
-use Rattle.ra_grand_laws.proofs.SessionSteps.{IsKept, kept_itself, kept_if, kept_by, part_mapped}
-use Rattle.ra_grand_laws.proofs.WorldSteps.{part_rows, by_bool}
+use Rattle.ra_grand_runs.specs.Works.{Telling, answers, speaks, told, telling, telling_refusal, Told, told_by, unless_ended, misses, tells, without_job, work_by, worked}
+use Rattle.ra_run_laws.specs.KeptRows.{RowsAgree}
+use Rattle.ra_run_laws.proofs.KeptRows.{agree_itself, entry_agrees, expiries_agree}
+use Rattle.ra_run_laws.proofs.Lists.{by_bool}
+use Rattle.ra_run_laws.proofs.Rising.{told_session}
+use Rattle.ra_link_laws.specs.Parts.{PartHolds, WorldKeeps}
+use Rattle.ra_link_laws.proofs.SessionCallsKept.{kept_end, kept_tick, kept_answer, kept_say}
+use Rattle.ra_link_laws.proofs.SessionSteps.{IsKept, kept_itself, kept_if, kept_by, part_mapped}
+use Rattle.ra_link_laws.proofs.WorldSteps.{part_rows}
 
 -- what becomes of the session and the row of a key
 pub record KeyKeeps (old new : Hub) (key : Key) : Type 0 where

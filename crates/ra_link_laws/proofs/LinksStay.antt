@@ -5,8 +5,8 @@ use Rattle.ra_base.specs.declared.key.Seat.{Seat}
 use Rattle.ra_model.specs.Links.{Link, at_number, put_number}
 use Rattle.ra_link_core.specs.LinkRuns.{Welcome}
 use Rattle.ra_grand_runs.specs.GrandClients.{GrandLink}
-use Rattle.ra_grand_laws.specs.Parts.{Drawn, IsWelcome, HasWelcome, EndStands, LinkKeeps}
-use Rattle.ra_grand_laws.proofs.Lists.{there_is, put_other, number_front}
+use Rattle.ra_run_laws.proofs.Lists.{there_is, put_other, number_front}
+use Rattle.ra_link_laws.specs.Parts.{Drawn, IsWelcome, HasWelcome, EndStands, LinkKeeps}
 
 -- both lists have the same link under each number that the first has, and where the welcome is
 abbrev SameAt : List Link → List Link → Option Welcome → Type 0

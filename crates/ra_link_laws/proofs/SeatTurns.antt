@@ -18,14 +18,15 @@ use Rattle.ra_link_core.specs.HubEvents.HubEvent.{Turn}
 use Rattle.ra_link_core.specs.LinkRuns.{End, refused_by, Serving, writes, does, ends_by, Turned, stops, turn_by, turn_ended, turn_in, turned, turned_again, served}
 use Rattle.ra_grand_runs.specs.GrandClients.{GrandLink}
 use Rattle.ra_grand_runs.specs.Reached.{Begins}
-use Rattle.ra_grand_laws.specs.Parts.{IsSeated}
-use Rattle.ra_grand_laws.proofs.Lists.{none_there}
-use Rattle.ra_grand_laws.proofs.HubMoves.{HubMoves, IsOwn, others_trans, turned_hub}
-use Rattle.ra_grand_laws.proofs.ServedFocus.{Ground, Focus}
-use Rattle.ra_grand_laws.proofs.ServedMoves.{focus_moved}
-use Rattle.ra_grand_laws.proofs.ServedRuns.{link_after, put_next, Going, Stands, going_stands, stands_going, focus_hub, ends_so, closes_so}
-use Rattle.ra_grand_laws.proofs.ServedTexts.{Follows, IsPut, follows_read, keeps_put, below_put, welcome_read, seat_stands}
-use Rattle.ra_grand_laws.proofs.ServedTurns.{seat_at, seated_at, focus_turned, focus_spoiled}
+use Rattle.ra_run_laws.proofs.Lists.{none_there}
+use Rattle.ra_link_laws.specs.Parts.{IsSeated}
+use Rattle.ra_link_laws.proofs.BadTurns.{both_none, second_is, fed_bad}
+use Rattle.ra_link_laws.proofs.HubMoves.{HubMoves, IsOwn, others_trans, turned_hub}
+use Rattle.ra_link_laws.proofs.ServedFocus.{Ground, Focus}
+use Rattle.ra_link_laws.proofs.ServedMoves.{focus_moved}
+use Rattle.ra_link_laws.proofs.ServedRuns.{link_after, put_next, Going, Stands, going_stands, stands_going, focus_hub, ends_so, closes_so}
+use Rattle.ra_link_laws.proofs.ServedTexts.{Follows, IsPut, follows_read, keeps_put, below_put, welcome_read, seat_stands}
+use Rattle.ra_link_laws.proofs.ServedTurns.{seat_at, seated_at, focus_turned, focus_spoiled}
 
 -- after a turn the link stands, and where one more is due it goes on
 pub record TurnStands (g : Ground) (h : Hub) (draw : ℕ → List ℕ) (bytes : List ℕ) (now epoch : ℕ) (t : Turned) : Type 0 where

@@ -28,16 +28,16 @@ use Rattle.ra_views.specs.SessionViews.{link_with}
 use Rattle.ra_grand_runs.specs.GrandClients.{GrandLink}
 use Rattle.ra_grand_runs.specs.Reached.{Begins}
 use Rattle.ra_grand_runs.specs.ServedLinks.{left}
-use Rattle.ra_grand_laws.specs.Handshakes.{client_text, greeting, request_for, Speaks}
-use Rattle.ra_grand_laws.specs.Parts.{Drawn, Carries, IsWelcome, IsSeated, LinkKeeps}
-use Rattle.ra_grand_laws.proofs.HubMoves.{OthersStay, HubMoves, HubCalls, HubAdmits, IsOwn, others_trans, refused_hub, admitted_hub, attached_hub, left_hub, next_is}
-use Rattle.ra_grand_laws.proofs.Lists.{there_is, none_there}
-use Rattle.ra_grand_laws.proofs.ServedFocus.{Ground, Focus}
-use Rattle.ra_grand_laws.proofs.ServedMoves.{focus_moved, focus_admitted}
-use Rattle.ra_grand_laws.proofs.ServedRuns.{link_after, put_first, Going, Stands, going_stands, focus_hub, focus_calls, ends_so}
-use Rattle.ra_grand_laws.proofs.ServedTexts.{Follows, IsPut, follows_nothing, put_begins, keeps_put, below_put, welcome_none, over_stands}
-use Rattle.ra_grand_laws.proofs.ServedTurns.{seat_at, focus_attached}
-use Rattle.ra_grand_laws.proofs.SeatTurns.{comes_nothing, served_stands}
+use Rattle.ra_run_laws.proofs.Lists.{there_is, none_there}
+use Rattle.ra_handshake_laws.specs.Handshakes.{client_text, greeting, request_for, Speaks}
+use Rattle.ra_link_laws.specs.Parts.{Drawn, Carries, IsWelcome, IsSeated, LinkKeeps}
+use Rattle.ra_link_laws.proofs.HubMoves.{OthersStay, HubMoves, HubCalls, HubAdmits, IsOwn, others_trans, refused_hub, admitted_hub, attached_hub, left_hub, next_is}
+use Rattle.ra_link_laws.proofs.SeatTurns.{comes_nothing, served_stands}
+use Rattle.ra_link_laws.proofs.ServedFocus.{Ground, Focus}
+use Rattle.ra_link_laws.proofs.ServedMoves.{focus_moved, focus_admitted}
+use Rattle.ra_link_laws.proofs.ServedRuns.{link_after, put_first, Going, Stands, going_stands, focus_hub, focus_calls, ends_so}
+use Rattle.ra_link_laws.proofs.ServedTexts.{Follows, IsPut, follows_nothing, put_begins, keeps_put, below_put, welcome_none, over_stands}
+use Rattle.ra_link_laws.proofs.ServedTurns.{seat_at, focus_attached}
 
 -- ---- a link without a seat, of which these bytes were read now, and on which this was written
 

@@ -19,9 +19,9 @@ use Rattle.ra_dial.specs.ShakingStates.{ShakingState}
 use Rattle.ra_grand_runs.specs.GrandClients.{GrandLink, Client}
 use Rattle.ra_grand_runs.specs.Grands.{with_link}
 use Rattle.ra_grand_runs.specs.Reached.{Begins, read_of}
-use Rattle.ra_grand_laws.specs.Handshakes.{ReadsHandshake}
-use Rattle.ra_grand_laws.specs.Parts.{Drawn, LinkKeeps, Shakes, IsAttached, HasLast, StageKeeps, IsServer, WritesWhole, PartHolds}
-use Rattle.ra_grand_laws.proofs.Lists.{there_is, same_or_not, get_same, get_other}
+use Rattle.ra_run_laws.proofs.Lists.{there_is, same_or_not, get_same, get_other}
+use Rattle.ra_handshake_laws.specs.Handshakes.{ReadsHandshake}
+use Rattle.ra_link_laws.specs.Parts.{Drawn, LinkKeeps, Shakes, IsAttached, HasLast, StageKeeps, IsServer, WritesWhole, PartHolds}
 
 -- what stays of a client: its key, its end of the view, its links before, and where among them this link is
 pub record Ground : Type 0 where

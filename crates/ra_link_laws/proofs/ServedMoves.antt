@@ -21,12 +21,12 @@ use Rattle.ra_views.specs.SessionViews.{link_with}
 use Rattle.ra_views.proofs.OtherLinks.{view_made, view_anew}
 use Rattle.ra_link_core.specs.LinkRuns.{Welcome}
 use Rattle.ra_grand_runs.specs.GrandClients.{GrandLink}
-use Rattle.ra_grand_laws.specs.KeptRows.{RowsAgree}
-use Rattle.ra_grand_laws.specs.Parts.{HasWelcome, IsWelcome, LinkKeeps, IsServer, WritesWhole}
-use Rattle.ra_grand_laws.proofs.LinksStay.{link_elsewhere, link_more}
-use Rattle.ra_grand_laws.proofs.Lists.{there_is, number_same}
-use Rattle.ra_grand_laws.proofs.ServedFocus.{Ground, StaysBelow, ReadsSame, Focus}
-use Rattle.ra_grand_laws.proofs.SessionSteps.{IsKept, whole_later}
+use Rattle.ra_run_laws.specs.KeptRows.{RowsAgree}
+use Rattle.ra_run_laws.proofs.Lists.{there_is, number_same}
+use Rattle.ra_link_laws.specs.Parts.{HasWelcome, IsWelcome, LinkKeeps, IsServer, WritesWhole}
+use Rattle.ra_link_laws.proofs.LinksStay.{link_elsewhere, link_more}
+use Rattle.ra_link_laws.proofs.ServedFocus.{Ground, StaysBelow, ReadsSame, Focus}
+use Rattle.ra_link_laws.proofs.SessionSteps.{IsKept, whole_later}
 
 -- ---- the session, and its row
 

@@ -27,16 +27,16 @@ use Rattle.ra_link_core.specs.LinkRuns.{Serving, Welcome, asked, opening_by, ope
 use Rattle.ra_grand_runs.specs.Draws.{own_then, first_draws}
 use Rattle.ra_grand_runs.specs.GrandClients.{GrandLink}
 use Rattle.ra_grand_runs.specs.SetUps.{secret, grounds}
-use Rattle.ra_grand_laws.specs.Handshakes.{client_text, greeting, request_for, OpensAt, Speaks}
-use Rattle.ra_grand_laws.specs.Parts.{Drawn, HasWelcome, IsWaiting, opening_of, IsOpening, LinkKeeps}
-use Rattle.ra_grand_laws.proofs.HubMoves.{OthersStay, same_hub}
-use Rattle.ra_grand_laws.proofs.Lists.{none_there}
-use Rattle.ra_grand_laws.proofs.OpenedFronts.{opens, draws}
-use Rattle.ra_grand_laws.proofs.ServedAdmissions.{IsNew, HasAsked, over_now, asked_stands}
-use Rattle.ra_grand_laws.proofs.ServedFocus.{Ground, Focus}
-use Rattle.ra_grand_laws.proofs.ServedMoves.{focus_moved}
-use Rattle.ra_grand_laws.proofs.ServedRuns.{link_after, put_first, Stands, going_stands}
-use Rattle.ra_grand_laws.proofs.ServedTexts.{Follows, IsPut, keeps_put, below_put, welcome_none, opening_so, opening_stands}
+use Rattle.ra_run_laws.proofs.Lists.{none_there}
+use Rattle.ra_handshake_laws.specs.Handshakes.{client_text, greeting, request_for, OpensAt, Speaks}
+use Rattle.ra_handshake_laws.proofs.OpenedFronts.{opens, draws}
+use Rattle.ra_link_laws.specs.Parts.{Drawn, HasWelcome, IsWaiting, opening_of, IsOpening, LinkKeeps}
+use Rattle.ra_link_laws.proofs.HubMoves.{OthersStay, same_hub}
+use Rattle.ra_link_laws.proofs.ServedAdmissions.{IsNew, HasAsked, over_now, asked_stands}
+use Rattle.ra_link_laws.proofs.ServedFocus.{Ground, Focus}
+use Rattle.ra_link_laws.proofs.ServedMoves.{focus_moved}
+use Rattle.ra_link_laws.proofs.ServedRuns.{link_after, put_first, Stands, going_stands}
+use Rattle.ra_link_laws.proofs.ServedTexts.{Follows, IsPut, keeps_put, below_put, welcome_none, opening_so, opening_stands}
 
 -- ---- texts
 

@@ -20,16 +20,16 @@ use Rattle.ra_grand_runs.specs.Grands.{Grand, Found, with_link}
 use Rattle.ra_grand_runs.specs.Marks.{whole}
 use Rattle.ra_grand_runs.specs.ServedLinks.{draw_at, serving_at, served, came_whole, left, settled, put_served, piece_came, server_left}
 use Rattle.ra_grand_runs.specs.SetUps.{settings_for, request_head, grounds}
-use Rattle.ra_grand_laws.specs.Parts.{EndStands, IsSeated, PartHolds, WorldKeeps}
-use Rattle.ra_grand_laws.proofs.HubMoves.{IsOwn, others_itself}
-use Rattle.ra_grand_laws.proofs.SeatTurns.{Comes, served_stands}
-use Rattle.ra_grand_laws.proofs.ServedFocus.{Ground, Focus, ground_of, focus, unfocus}
-use Rattle.ra_grand_laws.proofs.ServedMoves.{focus_moved}
-use Rattle.ra_grand_laws.proofs.ServedOpenings.{shaking_stands}
-use Rattle.ra_grand_laws.proofs.ServedRuns.{link_after, put_first, Going, Stands, left_over}
-use Rattle.ra_grand_laws.proofs.ServedTexts.{IsPut, follows_read, follows_nothing, keeps_put, below_put, welcome_read, seat_stands}
-use Rattle.ra_grand_laws.proofs.ServedTurns.{seat_at, seated_at, put_nothing}
-use Rattle.ra_grand_laws.proofs.WorldSteps.{Changes}
+use Rattle.ra_link_laws.specs.Parts.{EndStands, IsSeated, PartHolds, WorldKeeps}
+use Rattle.ra_link_laws.proofs.HubMoves.{IsOwn, others_itself}
+use Rattle.ra_link_laws.proofs.SeatTurns.{Comes, served_stands}
+use Rattle.ra_link_laws.proofs.ServedFocus.{Ground, Focus, ground_of, focus, unfocus}
+use Rattle.ra_link_laws.proofs.ServedMoves.{focus_moved}
+use Rattle.ra_link_laws.proofs.ServedOpenings.{IsShaking, shaking_stands}
+use Rattle.ra_link_laws.proofs.ServedRuns.{link_after, put_first, Going, Stands, left_over}
+use Rattle.ra_link_laws.proofs.ServedTexts.{IsPut, follows_read, follows_nothing, keeps_put, below_put, welcome_read, seat_stands}
+use Rattle.ra_link_laws.proofs.ServedTurns.{seat_at, seated_at, put_nothing}
+use Rattle.ra_link_laws.proofs.WorldSteps.{Changes}
 
 -- ---- a link that was found
 

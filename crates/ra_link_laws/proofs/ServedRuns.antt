@@ -14,12 +14,12 @@ use Rattle.ra_link_core.specs.LinkRuns.{End, Serving, Welcome, closes, ends_by, 
 use Rattle.ra_grand_runs.specs.GrandClients.{GrandLink}
 use Rattle.ra_grand_runs.specs.Reached.{Begins}
 use Rattle.ra_grand_runs.specs.ServedLinks.{left, end_after}
-use Rattle.ra_grand_laws.specs.Handshakes.{Speaks}
-use Rattle.ra_grand_laws.proofs.HubMoves.{OthersStay, HubMoves, HubCalls, IsOwn, others_trans, closed_hub, left_hub}
-use Rattle.ra_grand_laws.proofs.ServedFocus.{Ground, Focus}
-use Rattle.ra_grand_laws.proofs.ServedMoves.{focus_rows, focus_called, focus_moved}
-use Rattle.ra_grand_laws.proofs.ServedTexts.{Follows, IsPut, follows_nothing, keeps_put, below_put, welcome_read, over_stands}
-use Rattle.ra_grand_laws.proofs.ServedTurns.{seat_at}
+use Rattle.ra_handshake_laws.specs.Handshakes.{Speaks}
+use Rattle.ra_link_laws.proofs.HubMoves.{OthersStay, HubMoves, HubCalls, IsOwn, others_trans, closed_hub, left_hub}
+use Rattle.ra_link_laws.proofs.ServedFocus.{Ground, Focus}
+use Rattle.ra_link_laws.proofs.ServedMoves.{focus_rows, focus_called, focus_moved}
+use Rattle.ra_link_laws.proofs.ServedTexts.{Follows, IsPut, follows_nothing, keeps_put, below_put, welcome_read, over_stands}
+use Rattle.ra_link_laws.proofs.ServedTurns.{seat_at}
 
 -- ---- the link once it is served so
 

@@ -10,9 +10,9 @@ use Rattle.ra_model.specs.Links.{Link, Direction, at_number, readable, read_on, 
 use Rattle.ra_link_core.specs.LinkRuns.{Welcome}
 use Rattle.ra_grand_runs.specs.GrandClients.{GrandLink}
 use Rattle.ra_grand_runs.specs.Reached.{Begins, read_of}
-use Rattle.ra_grand_laws.specs.Handshakes.{Speaks}
-use Rattle.ra_grand_laws.specs.Parts.{Drawn, Carries, IsWelcome, HasWelcome, IsOpening, IsSeated, EndStands, LinkKeeps}
-use Rattle.ra_grand_laws.proofs.ServedFocus.{StaysBelow}
+use Rattle.ra_handshake_laws.specs.Handshakes.{Speaks}
+use Rattle.ra_link_laws.specs.Parts.{Drawn, Carries, IsWelcome, HasWelcome, IsOpening, IsSeated, EndStands, LinkKeeps}
+use Rattle.ra_link_laws.proofs.ServedFocus.{StaysBelow}
 
 -- ---- what is read
 

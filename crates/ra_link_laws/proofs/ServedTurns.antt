@@ -29,13 +29,13 @@ use Rattle.ra_opening.specs.Verdicts.{acceptance_bytes}
 use Rattle.ra_link_core.specs.LinkRuns.{Welcome}
 use Rattle.ra_grand_runs.specs.GrandClients.{GrandLink}
 use Rattle.ra_grand_runs.specs.Reached.{Agrees}
-use Rattle.ra_grand_laws.specs.Handshakes.{greeting, Speaks}
-use Rattle.ra_grand_laws.specs.Parts.{Carries, HasWelcome, IsWelcome, IsSeated, WritesWhole}
-use Rattle.ra_grand_laws.proofs.Lists.{there_is, number_same}
-use Rattle.ra_grand_laws.proofs.ServedFocus.{Ground, Focus}
-use Rattle.ra_grand_laws.proofs.ServedMoves.{focus_session_links}
-use Rattle.ra_grand_laws.proofs.ServedTexts.{Follows, IsPut, follows_read, follows_nothing, read_session_link, carries_put, carries_read, keeps_put, below_put, welcome_put, written_same, seat_stands, seated_so}
-use Rattle.ra_grand_laws.proofs.WholeTexts.{joining_later, out_or_none, view_dropped}
+use Rattle.ra_run_laws.proofs.Lists.{there_is, number_same}
+use Rattle.ra_handshake_laws.specs.Handshakes.{greeting, Speaks}
+use Rattle.ra_link_laws.specs.Parts.{Carries, HasWelcome, IsWelcome, IsSeated, WritesWhole}
+use Rattle.ra_link_laws.proofs.ServedFocus.{Ground, Focus}
+use Rattle.ra_link_laws.proofs.ServedMoves.{focus_session_links}
+use Rattle.ra_link_laws.proofs.ServedTexts.{Follows, IsPut, follows_read, follows_nothing, read_session_link, carries_put, carries_read, keeps_put, below_put, welcome_put, written_same, seat_stands, seated_so}
+use Rattle.ra_link_laws.proofs.WholeTexts.{joining_later, out_or_none, view_dropped}
 
 abbrev pub seat_at : Key → ℕ → Seat
 seat_at owner epoch = record { key = owner; epoch = epoch }

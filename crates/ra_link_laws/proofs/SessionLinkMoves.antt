@@ -12,9 +12,9 @@ use Rattle.ra_model.proofs.Numbers.{put_cases, put_same, put_other}
 use Rattle.ra_link_core.specs.LinkRuns.{Welcome}
 use Rattle.ra_grand_runs.specs.GrandClients.{GrandLink, writes_up}
 use Rattle.ra_grand_runs.specs.Reached.{Begins, read_of}
-use Rattle.ra_grand_laws.specs.Handshakes.{client_text}
-use Rattle.ra_grand_laws.specs.Parts.{Drawn, Carries, IsWelcome, HasWelcome, EndStands, LinkKeeps, WritesWhole}
-use Rattle.ra_grand_laws.proofs.Lists.{there_is, same_or_not}
+use Rattle.ra_run_laws.proofs.Lists.{there_is, same_or_not}
+use Rattle.ra_handshake_laws.specs.Handshakes.{client_text}
+use Rattle.ra_link_laws.specs.Parts.{Drawn, Carries, IsWelcome, HasWelcome, EndStands, LinkKeeps, WritesWhole}
 
 -- ---- links of the session of which other bytes were read
 

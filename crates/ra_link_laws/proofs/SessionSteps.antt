@@ -14,7 +14,7 @@ use Rattle.ra_session.specs.OnLinks.{IsRunning}
 use Rattle.ra_session.specs.Sessions.{Session}
 use Rattle.ra_views.specs.SessionViews.{KeepsSessionViews, SessionOnlyGrows}
 use Rattle.ra_grand_runs.specs.GrandClients.{Client}
-use Rattle.ra_grand_laws.specs.Parts.{WritesWhole, PartHolds}
+use Rattle.ra_link_laws.specs.Parts.{WritesWhole, PartHolds}
 
 -- a call keeps every view, the number of the session's link, and that it runs
 pub record IsKept (call : Session → Session) : Type 0 where

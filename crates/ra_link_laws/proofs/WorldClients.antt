@@ -12,10 +12,10 @@ use Rattle.ra_grand_runs.specs.GrandClients.{Client, new_client}
 use Rattle.ra_grand_runs.specs.GrandRefusals.{token_taken, holder}
 use Rattle.ra_grand_runs.specs.GrandRuns.{joins, with_place}
 use Rattle.ra_grand_runs.specs.Grands.{Grand, changed, with_client}
-use Rattle.ra_grand_laws.specs.Parts.{PartHolds, WorldKeeps}
-use Rattle.ra_grand_laws.proofs.KeptRows.{agree_itself}
-use Rattle.ra_grand_laws.proofs.Lists.{none_there, there_is, get_front}
-use Rattle.ra_grand_laws.proofs.WorldSteps.{world_changes}
+use Rattle.ra_run_laws.proofs.KeptRows.{agree_itself}
+use Rattle.ra_run_laws.proofs.Lists.{none_there, there_is, get_front}
+use Rattle.ra_link_laws.specs.Parts.{PartHolds, WorldKeeps}
+use Rattle.ra_link_laws.proofs.WorldSteps.{world_changes}
 
 -- ---- one client changes
 

@@ -10,11 +10,11 @@ use Rattle.ra_grand_runs.specs.GrandClients.{GrandLink, Client}
 use Rattle.ra_grand_runs.specs.GrandRefusals.{Refusal, of_link}
 use Rattle.ra_grand_runs.specs.GrandRuns.{takes, comes_down, cuts}
 use Rattle.ra_grand_runs.specs.Grands.{Grand, Place, Found, changed, with_link, found_link, found_client, found_at, find_link, put_link, on_link}
-use Rattle.ra_grand_laws.specs.Parts.{PartHolds, WorldKeeps}
-use Rattle.ra_grand_laws.proofs.KeptRows.{agree_itself}
-use Rattle.ra_grand_laws.proofs.Lists.{none_there, get_same}
-use Rattle.ra_grand_laws.proofs.WorldClients.{world_own}
-use Rattle.ra_grand_laws.proofs.WorldSteps.{world_changes}
+use Rattle.ra_run_laws.proofs.KeptRows.{agree_itself}
+use Rattle.ra_run_laws.proofs.Lists.{none_there, get_same}
+use Rattle.ra_link_laws.specs.Parts.{PartHolds, WorldKeeps}
+use Rattle.ra_link_laws.proofs.WorldClients.{world_own}
+use Rattle.ra_link_laws.proofs.WorldSteps.{world_changes}
 
 -- the link that was found is there
 pub record IsHere (f : Found) (w : Grand) : Type 0 where

@@ -9,13 +9,9 @@ use Rattle.ra_session.specs.Sessions.{Session}
 use Rattle.ra_hub.specs.Hubs.{row}
 use Rattle.ra_grand_runs.specs.GrandClients.{Client}
 use Rattle.ra_grand_runs.specs.Grands.{Grand}
-use Rattle.ra_grand_laws.specs.KeptRows.{RowsAgree}
-use Rattle.ra_grand_laws.specs.Parts.{PartHolds, WorldKeeps}
-use Rattle.ra_grand_laws.proofs.Lists.{there_is, same_or_not, get_same, get_other}
-
-pub by_bool : {P : Type 0} → (b : Bool) → (b ≡ true → P) → (b ≡ false → P) → P
-by_bool true so other = so refl
-by_bool false so other = other refl
+use Rattle.ra_run_laws.specs.KeptRows.{RowsAgree}
+use Rattle.ra_run_laws.proofs.Lists.{there_is, same_or_not, get_same, get_other, by_bool}
+use Rattle.ra_link_laws.specs.Parts.{PartHolds, WorldKeeps}
 
 -- the row is as good as the one before
 pub part_rows : (s : Option Session) (o p : Option Row) (c : Client) → PartHolds s o c → RowsAgree o p → PartHolds s p c

@@ -29,7 +29,7 @@ use Rattle.ra_grand_runs.specs.GrandClients.{ServerEnd, GrandLink, Client}
 use Rattle.ra_grand_runs.specs.Grands.{Grand}
 use Rattle.ra_grand_runs.specs.Reached.{Begins, read_of}
 use Rattle.ra_grand_runs.specs.SetUps.{settings_for, request_head, grounds}
-use Rattle.ra_grand_laws.specs.Handshakes.{client_text, Speaks, ReadsHandshake, HasSaid}
+use Rattle.ra_handshake_laws.specs.Handshakes.{client_text, Speaks, ReadsHandshake, HasSaid}
 
 -- ---- one link
 

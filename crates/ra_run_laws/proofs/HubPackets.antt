@@ -33,10 +33,10 @@ use Rattle.ra_grand_runs.specs.GrandSweeps.{swept_hub}
 use Rattle.ra_grand_runs.specs.Marks.{Mark, whole, short, unticked}
 use Rattle.ra_grand_runs.specs.ServedLinks.{draw_at, serving_at, served, came_by, left}
 use Rattle.ra_grand_runs.specs.SetUps.{grounds}
-use Rattle.ra_grand_laws.specs.SaidPackets.{late_of}
-use Rattle.ra_grand_laws.proofs.SessionPackets.{HasSaid, said_attach, said_lose, said_end, said_turn, said_swept}
-use Rattle.ra_grand_laws.proofs.RisingHubs.{HaveRows, step_event, fresh_row}
-use Rattle.ra_grand_laws.proofs.WorldSteps.{by_bool}
+use Rattle.ra_run_laws.specs.SaidPackets.{late_of}
+use Rattle.ra_run_laws.proofs.Lists.{by_bool}
+use Rattle.ra_run_laws.proofs.RisingHubs.{HaveRows, step_event, fresh_row}
+use Rattle.ra_run_laws.proofs.SessionPackets.{HasSaid, said_attach, said_lose, said_end, said_turn, said_swept}
 
 -- the session of the key has said these; where there is none, there are none
 abbrev pub SaidOf : List Message → Option Session → Type 0

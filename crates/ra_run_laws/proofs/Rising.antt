@@ -37,12 +37,11 @@ use Rattle.ra_grand_runs.specs.GrandSweeps.{expired_keys, left_by, sweeps}
 use Rattle.ra_grand_runs.specs.Marks.{Mark, whole, short, unticked, Entry}
 use Rattle.ra_grand_runs.specs.ServedLinks.{draw_at, serving_at, served, came_by, left, piece_came, server_left}
 use Rattle.ra_grand_runs.specs.SetUps.{grounds}
-use Rattle.ra_grand_runs.specs.Works.{Telling, answers, speaks, told, telling, telling_refusal, Told, told_by, unless_ended, misses, tells, without_job, work_by, worked}
-use Rattle.ra_grand_laws.specs.Rising.{ClientsRise}
-use Rattle.ra_grand_laws.proofs.HubSteps.{told_session}
-use Rattle.ra_grand_laws.proofs.Lists.{there_is, same_or_not, put_other, number_same, number_front}
-use Rattle.ra_grand_laws.proofs.RisingClients.{ClientRises, rises_dialled, rises_linked, rises_asked}
-use Rattle.ra_grand_laws.proofs.RisingHubs.{HaveRows, HubStep, step_itself, step_trans, step_at, step_events, step_left, step_swept, step_missed}
+use Rattle.ra_grand_runs.specs.Works.{Telling, answers, speaks, told, telling, telling_refusal, Told, told_to, told_by, session_by, unless_ended, misses, tells, without_job, work_by, worked}
+use Rattle.ra_run_laws.specs.Rising.{ClientsRise}
+use Rattle.ra_run_laws.proofs.Lists.{there_is, same_or_not, put_other, number_same, number_front}
+use Rattle.ra_run_laws.proofs.RisingClients.{ClientRises, rises_dialled, rises_linked, rises_asked}
+use Rattle.ra_run_laws.proofs.RisingHubs.{HaveRows, HubStep, step_itself, step_trans, step_at, step_events, step_left, step_swept, step_missed}
 
 -- ---- clients
 

@@ -32,10 +32,10 @@ use Rattle.ra_link_core.specs.HubEvents.{HubEvent, judged_by, on_session, event_
 use Rattle.ra_link_core.specs.HubEvents.HubEvent.{Admit, Attach, Turn, Lose, Close}
 use Rattle.ra_link_core.specs.LinkRuns.{hub_left}
 use Rattle.ra_grand_runs.specs.GrandSweeps.{swept_hub}
-use Rattle.ra_grand_laws.specs.KeptRows.{RowsAgree}
-use Rattle.ra_grand_laws.specs.Rising.{HubRises}
-use Rattle.ra_grand_laws.proofs.KeptRows.{entry_agrees, own_entry, other_entry_agrees, expiries_agree}
-use Rattle.ra_grand_laws.proofs.WorldSteps.{by_bool}
+use Rattle.ra_run_laws.specs.KeptRows.{RowsAgree}
+use Rattle.ra_run_laws.specs.Rising.{HubRises}
+use Rattle.ra_run_laws.proofs.KeptRows.{entry_agrees, own_entry, other_entry_agrees, expiries_agree}
+use Rattle.ra_run_laws.proofs.Lists.{by_bool}
 
 -- a key without a row has no session
 abbrev pub HaveRows : Hub → Type 0

@@ -17,10 +17,10 @@ use Rattle.ra_grand_runs.specs.GrandRuns.{happens, unless, after, run, is_accept
 use Rattle.ra_grand_runs.specs.Grands.{Grand, new_grand}
 use Rattle.ra_grand_runs.specs.Marks.{Entry}
 use Rattle.ra_grand_runs.specs.Reached.{ClientHolds, ClientsHold}
-use Rattle.ra_grand_laws.specs.Runs.{HasKey, HaveKeys, HaveRequests, IsRun}
-use Rattle.ra_grand_laws.proofs.Lists.{none_there, there_is}
-use Rattle.ra_grand_laws.proofs.Rising.{WorldStep, step_run, step_after, rows_new}
-use Rattle.ra_grand_laws.proofs.RisingHubs.{HaveRows}
+use Rattle.ra_run_laws.specs.Runs.{HasKey, HaveKeys, HaveRequests, IsRun}
+use Rattle.ra_run_laws.proofs.Lists.{none_there, there_is}
+use Rattle.ra_run_laws.proofs.Rising.{WorldStep, step_run, step_after, rows_new}
+use Rattle.ra_run_laws.proofs.RisingHubs.{HaveRows}
 
 client_holds : (cs : List Client) (n : ℕ) (c : Client) → ClientsHold cs → slice_get cs n ≡ Some c → ClientHolds c
 client_holds [] n c holds is = none_there is

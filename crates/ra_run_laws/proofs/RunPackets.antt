@@ -21,14 +21,13 @@ use Rattle.ra_grand_runs.specs.GrandSweeps.{expired_keys, left_by, sweeps}
 use Rattle.ra_grand_runs.specs.Marks.{Mark, Entry}
 use Rattle.ra_grand_runs.specs.ServedLinks.{serving_at, served, came_by, piece_came, server_left}
 use Rattle.ra_grand_runs.specs.Works.{Telling, answers, speaks, told, telling, telling_refusal, Told, told_by, unless_ended, misses, tells, without_job, work_by, worked}
-use Rattle.ra_grand_laws.specs.SaidPackets.{without_initialize, packets_told, unless_refused, packets_of, job_packets, packets_by, packets_over}
-use Rattle.ra_grand_laws.specs.Outcomes.{unless}
-use Rattle.ra_grand_laws.proofs.HubPackets.{SaidOf, HubSaid, said_left, said_came, said_settled, said_sweep}
-use Rattle.ra_grand_laws.proofs.SessionPackets.{HasSaid, said_body, said_answer}
-use Rattle.ra_grand_laws.proofs.HubSteps.{told_session}
-use Rattle.ra_grand_laws.proofs.Rising.{came_step, step_after, rows_new}
-use Rattle.ra_grand_laws.proofs.RisingHubs.{HaveRows}
-use Rattle.ra_grand_laws.proofs.WorldSteps.{by_bool}
+use Rattle.ra_run_laws.specs.Runs.{unless}
+use Rattle.ra_run_laws.specs.SaidPackets.{without_initialize, packets_told, unless_refused, packets_of, job_packets, packets_by, packets_over}
+use Rattle.ra_run_laws.proofs.HubPackets.{SaidOf, HubSaid, said_left, said_came, said_settled, said_sweep}
+use Rattle.ra_run_laws.proofs.Lists.{by_bool}
+use Rattle.ra_run_laws.proofs.Rising.{came_step, step_after, rows_new, told_session}
+use Rattle.ra_run_laws.proofs.RisingHubs.{HaveRows}
+use Rattle.ra_run_laws.proofs.SessionPackets.{HasSaid, said_body, said_answer}
 
 -- nothing is added
 same : (key : Key) (said : List Message) (h : Hub) → HubSaid key said h → HubSaid key (said ++ []) h

@@ -6,6 +6,7 @@ use Rattle.ra_script.specs.GrandLines.{GrandEventFits}
 use Rattle.ra_script.specs.declared.grand_line.GrandEvent.{GrandEvent}
 use Rattle.ra_script.specs.declared.grand_line.GrandEvent.TheVariants as events
 use Rattle.ra_grand_runs.specs.Fits.{RunFits}
+use Rattle.ra_grand_runs.specs.GrandRefusals.{Refusal}
 use Rattle.ra_grand_runs.specs.Grands.{new_grand}
 use Rattle.ra_grand_runs.specs.Marks.{Mark, whole, short, unticked, Entry}
 

@@ -21,7 +21,7 @@ use Rattle.ra_grand_runs.specs.GrandSweeps.{left_by}
 use Rattle.ra_grand_runs.specs.Grands.{Grand}
 use Rattle.ra_grand_runs.specs.Marks.{Mark, Entry}
 use Rattle.ra_grand_runs.specs.Works.{Telling, answers, speaks, Told, told_by, telling_refusal}
-use Rattle.ra_grand_laws.specs.Outcomes.{unless}
+use Rattle.ra_run_laws.specs.Runs.{unless}
 
 -- all packets but Initialize, which a session says when it has heard the context
 abbrev pub without_initialize : List Message → List Message
