@@ -117,7 +117,7 @@ fn answer_to(alloc: Global, id: i32) -> Result<Tell, Fail>
 }
 
 /// The call with this id is answered.
-#[tactic(auto, using(ra_link::proofs::SeatLemmas::holds_stay))]
+#[tactic(auto, using(ra_link_core::proofs::SeatLemmas::holds_stay))]
 fn tell<H: Hub>(core: &LinkCore, hub: &mut H, around: &Around, id: i32) -> Result<bool, Fail>
     requires { Holds (H.seats hub.old) (seat_in core.now) }
     ensures { Holds (H.seats hub.new) (seat_in core.now) }
@@ -128,7 +128,7 @@ fn tell<H: Hub>(core: &LinkCore, hub: &mut H, around: &Around, id: i32) -> Resul
 }
 
 /// A tick.
-#[tactic(auto, using(ra_link::proofs::SeatLemmas::holds_stay))]
+#[tactic(auto, using(ra_link_core::proofs::SeatLemmas::holds_stay))]
 fn tick<H: Hub>(core: &LinkCore, hub: &mut H, around: &Around)
     requires { Holds (H.seats hub.old) (seat_in core.now) }
     ensures { Holds (H.seats hub.new) (seat_in core.now) }
