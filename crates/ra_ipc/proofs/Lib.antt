@@ -9,3 +9,4 @@ pub mod Replies
 pub mod ServerOnce
 pub mod Heard
 pub mod ChannelRows
+pub mod ClientOnce

@@ -64,20 +64,20 @@ in-without i j (k ∷ ids) = elim (cases_Bool (k == j)) [
 ]
 
 -- how the call of an id stands
-data Stands (i : ℕ) (p : Pair) : Type 0 where
+pub data Stands (i : ℕ) (p : Pair) : Type 0 where
   unmade : was_made i p.entries ≡ false → is_in i p.client.calls ≡ false → settled_as i p.settled ≡ None → Stands i p
   open_ : was_made i p.entries ≡ true → is_in i p.client.calls ≡ true → outcome i p.entries ≡ None → settled_as i p.settled ≡ None → Stands i p
   over : was_made i p.entries ≡ true → is_in i p.client.calls ≡ false → (o : Outcome) → outcome i p.entries ≡ Some o → settled_as i p.settled ≡ Some o → Stands i p
 
-record Standing (p : Pair) : Type 0 where
-  each : (i : ℕ) → Stands i p
+pub record Standing (p : Pair) : Type 0 where
+  pub each : (i : ℕ) → Stands i p
   later : (i : ℕ) → p.client.next ≤ i → was_made i p.entries ≡ false
 
 made-push : (i : ℕ) (es : List Entry) (e : Entry) → was_made i (es ++ e ∷ []) ≡ (was_made i es || is_made i e)
 made-push i [] e = elim (is_made i e) as (λ b. (b || false) ≡ (false || b)) [ true ↦ refl | false ↦ refl ]
 made-push i (f ∷ es) e = elim (cases_Bool (is_made i f)) [ inl t ↦ rw t refl | inr g ↦ rw g (made-push i es e) ]
 
-start_stands : Standing start
+pub start_stands : Standing start
 start_stands = record { each = λ i. unmade refl refl refl; later = λ i h. refl }
 
 -- an entry that ends no call and makes none
@@ -221,7 +221,7 @@ told_stands p (response j reply) ms st = cond_both (is_in j p.client.calls) _ _ 
     (λ f. ignored p j reply refl refl refl refl f st)
 told_stands p (event_fire j body) ms st = cond_both (is_in j p.client.listeners) _ _ Standing (λ _. quiet p (event_fire j body) refl refl refl refl (λ i. refl) st) (λ _. quiet p (event_fire j body) refl refl refl refl (λ i. refl) st)
 
-fallen_stands : (p : Pair) (way : List Message) → Standing p → Standing (after_client_hears p way)
+pub fallen_stands : (p : Pair) (way : List Message) → Standing p → Standing (after_client_hears p way)
 fallen_stands p [] st = st
 fallen_stands p (m ∷ ms) st = told_stands p m ms st
 
@@ -238,7 +238,7 @@ risen_stands : (p : Pair) (now : ℕ) (way : List Message) → Standing p → St
 risen_stands p now [] st = st
 risen_stands p now (m ∷ ms) st = served_stands (record p { server_heard = p.server_heard ++ m ∷ []; to_server = ms }) now m (unchanged p refl refl refl (omega arith) st)
 
-happens_stands : (p : Pair) (e : Step) → Standing p → Standing (happens p e)
+pub happens_stands : (p : Pair) (e : Step) → Standing p → Standing (happens p e)
 happens_stands p (call ch name arg) st = cond_both (nat_lt p.client.next (2 ^ 31)) _ _ Standing (λ _. making p refl refl refl refl st) (λ _. st)
 happens_stands p (cancel j) st = cond_both (is_in j p.client.calls) _ _ Standing (λ t. closing p j cancelled (call_cancelled j) refl refl refl refl (λ i. refl) (λ i. refl) t st) (λ _. st)
 happens_stands p (listen ch event arg) st = cond_both (nat_lt p.client.next (2 ^ 31)) _ _ Standing (λ _. unchanged p (simp append-nil) refl refl (omega arith) st) (λ _. st)
@@ -254,7 +254,7 @@ run_stands : (es : List Step) (p : Pair) → Standing p → Standing (run es p)
 run_stands [] p st = st
 run_stands (e ∷ es) p st = run_stands es (happens p e) (happens_stands p e st)
 
-agrees : (i : ℕ) (p : Pair) → Stands i p → settled_as i p.settled ≡ outcome i p.entries
+pub agrees : (i : ℕ) (p : Pair) → Stands i p → settled_as i p.settled ≡ outcome i p.entries
 agrees i p (unmade a b c) = c ∙ sym (outcome_none i p.entries a)
 agrees i p (open_ a b c d) = d ∙ sym c
 agrees i p (over a b o c d) = d ∙ sym c

@@ -12,3 +12,4 @@ pub mod ChannelPairs
 pub mod ChannelPackets
 pub mod ChannelLaws
 pub mod Deliveries
+pub mod ClientRuns

@@ -1,5 +1,6 @@
 //! The law of the format of packets, apart from its reader and its writer, and the law over both ends of a session's channels.
 ghost use Rattle.ra_ipc.specs.ChannelLaws.{AnsweredAsTold, SettlesOnce, SettlesByItsOwn, AnsweredOnce, NeverClashes, FiresInOrder, FiredWhileListening};
+ghost use Rattle.ra_ipc.specs.ClientRuns.{SettlesOnceAlone, SettlesByItsOwnAlone};
 ghost use Rattle.ra_ipc.specs.ServerRuns.{AnsweredOncePerPromise};
 ghost use Rattle.ra_ipc.specs.Deliveries.{EachClientHears, ServerHears};
 ghost use Rattle.ra_ipc.specs.Laws.{EachIsSpelled, OthersAreNotSpelled, NoneBeginsAnother, SpelledIsRead};
@@ -23,6 +24,13 @@ pub fn channels()
     ensures fires { FiresInOrder }
     ensures fired { FiredWhileListening }
     ensures apart { NeverClashes }
+{}
+
+/// What a channel client hands up, whatever its peer sends: each call ends at most once, by its own cancel or the first response that was
+/// heard behind it.
+pub fn client_alone()
+    ensures once { SettlesOnceAlone }
+    ensures own { SettlesByItsOwnAlone }
 {}
 
 /// What a channel server answers, whatever its peer sends: each call at most once before it hears another one of the same id, and no

@@ -3,6 +3,7 @@
 //! A packet is a header value followed by a body value. What an end does with a packet is not here.
 #![tactic(auto)]
 
+mod comparing;
 mod copying;
 mod decoding;
 mod encoding;

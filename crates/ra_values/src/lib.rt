@@ -5,6 +5,7 @@
 #![tactic(auto)]
 
 pub mod bytes;
+mod comparing;
 mod copying;
 mod fault;
 mod fitting;
