@@ -1,5 +1,5 @@
 -- What stands at the front, by its header.
-use Rattle.std.proofs.Common.{◌≡◌, ℕ, ◌+◌, ◌<◌, ◌≤◌, Bool, true, false, leb, ltb, eqb, suc, ◌∷◌, Some, None, List, [], length, take, drop, get_or, ◌-◌, ◌++◌, refl, ap, sym, ◌∙◌, arith}
+use Rattle.std.proofs.Common.{◌≡◌, ℕ, ◌+◌, ◌<◌, ◌≤◌, Bool, true, false, leb, ltb, eqb, suc, ◌∷◌, Option, Some, None, List, [], length, take, drop, get_or, ◌-◌, ◌++◌, refl, ap, sym, ◌∙◌, arith}
 use Rattle.std.proofs.lemmas.List.{length-take, length-drop}
 use Rattle.std.proofs.lemmas.Bool.{le-leb, lt-leb, lt-ltb, le-ltb, eqb-true, leb-true, and_from, and_parts, and_left, and_right, cond-true, cond-false}
 use Rattle.ra_model.specs.declared.frame.Frame.{Frame}
@@ -9,7 +9,9 @@ use Rattle.ra_model.proofs.Framing.{first_frame-none, header_more}
 use Rattle.ra_model.proofs.Reading.{first_frame-some}
 use Rattle.ra_model.proofs.Cuts.{found-not_too_long, too_long-more}
 use Rattle.std.specs.Int.{byte_len}
-use Rattle.ra_frame.specs.Fronts.{IsPartial, IsTooLong, IsWhole}
+use Rattle.std.specs.Prelude.{option_map}
+use Rattle.ra_frame.specs.Fronts.{IsPartial, IsTooLong, IsWhole, HasFrame, head_of}
+use Rattle.ra_frame.specs.declared.front.FrameHead.{FrameHead}
 
 partial_of : (text : List ℕ) → first_frame text ≡ None → is_too_long text ≡ false → IsPartial text
 partial_of text none short = record { holds_none = first_frame-none text none; no_frame = none; not_too_long = short }
@@ -75,6 +77,23 @@ frame_read text n f whole wide kind id ack body =
     first_is text n whole ∙ ap (λ (w : Bool). Some (split_frame w n text)) (sym wide)
     ∙ (λ i. Some (record { kind = sym kind i; wide = f.wide; id = sym id i; ack = sym ack i; body = sym body i }, drop (header_len f.wide + n) text))
 
+pub head_read : (text : List ℕ) (n : ℕ) (h : FrameHead) → IsWhole text n → h.wide ≡ is_wide text → h.kind ≡ get_or text 0 0 - wide_mark h.wide → h.id ≡ number_at (number_width h.wide) 1 text
+    → h.ack ≡ number_at (number_width h.wide) (ack_place h.wide) text → Some h ≡ head_of text
+head_read text n h whole wide kind id ack =
+    sym (ap (λ (p : Option (Frame × List ℕ)). option_map (λ (q : Frame × List ℕ). record { kind = q.0.kind; wide = q.0.wide; id = q.0.id; ack = q.0.ack }) p)
+    (frame_read text n (record { kind = h.kind; wide = h.wide; id = h.id; ack = h.ack; body = take n (drop (header_len h.wide) text) }) whole wide kind id ack refl))
+
+pub no_head : (text : List ℕ) → first_frame text ≡ None → head_of text ≡ None
+no_head text none = ap (λ (p : Option (Frame × List ℕ)). option_map (λ (q : Frame × List ℕ). record { kind = q.0.kind; wide = q.0.wide; id = q.0.id; ack = q.0.ack }) p) none
+
+never_first : (o : Option (Frame × List ℕ)) → ((p : Frame × List ℕ) → o ≡ Some p → ⊥) → o ≡ None
+never_first None never = refl
+never_first (Some p) never = absurd (never p refl)
+
+pub long_head : (text : List ℕ) (n : ℕ) → IsTooLong text n → head_of text ≡ None
+long_head text n long =
+    no_head text (never_first (first_frame text) (λ p is. let two : false ≡ true = sym (found-not_too_long text p is) ∙ long.too_long in cc))
+
 header_some : (wide : Bool) → 0 < header_len wide
 header_some true = omega arith
 header_some false = omega arith
@@ -90,6 +109,27 @@ within buffer start n header wide inside h is =
     let there : header_len (is_wide unread) + n ≤ length unread = whole_there unread n h.0 in
     let same : header ≡ header_len (is_wide unread) = is ∙ ap header_len h.1 in
     omega (arith, length-take (length buffer - start) (drop start buffer), length-drop start buffer)
+
+none_by : {A : Type 0} (found : Option A) → ((a : A) → found ≡ Some a → ⊥) → found ≡ None
+none_by None never = refl
+none_by (Some a) never = absurd (never a refl)
+
+-- its type and its length
+pub has_whole : (text : List ℕ) (n kind header : ℕ) (wide : Bool) → IsWhole text n → wide ≡ is_wide text → header ≡ header_len wide → kind ≡ get_or text 0 0 - wide_mark wide
+    → HasFrame text kind (header + n)
+unfolding split_frame
+has_whole text n kind header wide w is_wide_is header_is kind_is =
+    let size : header_len (is_wide text) + n ≡ header + n = ap (λ (m : ℕ). m + n) (sym (header_is ∙ ap header_len is_wide_is)) in
+    record {
+      frame = (split_frame (is_wide text) n text).0;
+      first = first_is text n w ∙ ap (λ (m : ℕ). Some ((split_frame (is_wide text) n text).0, drop m text)) size;
+      kind_is = sym (kind_is ∙ ap (λ (b : Bool). get_or text 0 0 - wide_mark b) is_wide_is);
+      within = let there = whole_there text n w in omega (arith, there, size);
+    }
+
+-- none is whole where a header states too long a body
+pub long_none : (text : List ℕ) (m : ℕ) → IsTooLong text m → first_frame text ≡ None
+long_none text m long = none_by (first_frame text) (λ f is. let two = sym (found-not_too_long text f is) ∙ long.too_long in cc)
 
 -- a frame that is read from a text with a whole frame begins it
 pub whole_begins : (text : List ℕ) (n : ℕ) (f : Frame) (rest : List ℕ) → IsWhole text n → first_frame text ≡ Some (f, rest) → Begins text f rest

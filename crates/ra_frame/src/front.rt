@@ -1,9 +1,9 @@
 //! What stands at the front of unread bytes: a part of a frame, a whole frame, or a header that states too long a body.
-ghost use Rattle.std.specs.Prelude.{◌≡◌, ◌<◌, ◌≤◌, ◌+◌, ◌-◌, nat_le, length, drop, Some, IfOk};
+ghost use Rattle.std.specs.Prelude.{◌≡◌, ◌<◌, ◌≤◌, ◌+◌, ◌-◌, ℕ, nat_le, length, drop, get_or, Some, IfOk};
 ghost use Rattle.std.specs.Int.{w32, w64, byte_len};
 ghost use Rattle.ra_model.specs.Frames.{number_width, wide_mark};
 ghost use Rattle.ra_model.specs.FirstFrame.{number_at, header_len, ack_place, len_place, is_wide, first_frame};
-ghost use Rattle.ra_frame.specs.Fronts.{IsFront};
+ghost use Rattle.ra_frame.specs.Fronts.{IsFront, HasFrame, IsAhead, head_of, stated_ahead, states_above};
 
 use ra_base::{Message, NoMemory};
 use ra_model::Frame;
@@ -21,6 +21,15 @@ pub enum Front {
     TooLong { stated: u32 },
     /// A frame with a body of that many bytes.
     Whole { body: usize },
+}
+
+/// What the header of a frame states of it, but for the length of its body.
+#[derive(Clone, Copy, Debug, PartialEq, Eq)]
+pub struct FrameHead {
+    pub kind: u8,
+    pub wide: bool,
+    pub id: u64,
+    pub ack: u64,
 }
 
 /// The four bytes at this place, big-endian.
@@ -121,23 +130,85 @@ fn kind_of(first: u8, wide: bool) -> u8
     if wide { first - 128 } else { first }
 }
 
+/// The length of the body that the header at the front states, where the header is whole.
+fn stated_of(unread: &[u8]) -> Option<u32>
+    ensures { result ≡ stated_ahead unread.now }
+{
+    if unread.is_empty() {
+        return None;
+    }
+    let wide = is_wide(unread);
+    if unread.len() < header_len(wide) {
+        return None;
+    }
+    Some(read_u32(unread, len_place(wide)))
+}
+
+/// Whether the header at the front states a body longer than this limit, and within that of a frame. It takes no memory.
+pub fn states_above(unread: &[u8], limit: u32) -> bool
+    ensures { result ≡ states_above limit unread.now }
+{
+    match stated_of(unread) {
+        Some(stated) => stated > limit && stated as usize <= BODY_LIMIT,
+        None => false,
+    }
+}
+
+/// The type of the frame at the front, whose body has that many bytes, and how many bytes it has with its header.
+fn ahead_at(unread: &[u8], body: usize) -> (u8, usize)
+    requires whole { IsFront unread.now (Front.Whole body) }
+    ensures { HasFrame unread.now result.0 result.1 }
+{
+    let wide = is_wide(unread);
+    (kind_of(unread[0], wide), header_len(wide) + body)
+}
+
+/// The type of the frame at the front, and how many bytes it has, where it is whole. It takes no memory.
+pub fn ahead_of(unread: &[u8]) -> Option<(u8, usize)>
+    ensures { IsAhead unread.now result }
+{
+    match front_of(unread) {
+        Front::Partial => None,
+        Front::TooLong { stated: _ } => None,
+        Front::Whole { body } => Some(ahead_at(unread, body)),
+    }
+}
+
+/// The header of the whole frame at the front. It takes no memory.
+pub fn head_at(unread: &[u8]) -> FrameHead
+    requires whole { (n : ℕ) × IsFront unread.now (Front.Whole n) }
+    ensures wide { result.wide ≡ is_wide unread.now }
+    ensures kind { result.kind ≡ get_or unread.now 0 0 - wide_mark result.wide }
+    ensures id { result.id ≡ number_at (number_width result.wide) 1 unread.now }
+    ensures ack { result.ack ≡ number_at (number_width result.wide) (ack_place result.wide) unread.now }
+    ensures head { Some result ≡ head_of unread.now }
+{
+    let wide = is_wide(unread);
+    let kind = kind_of(unread[0], wide);
+    let id = number(unread, wide, 1);
+    let ack = number(unread, wide, ack_place(wide));
+    FrameHead {
+        kind,
+        wide,
+        id,
+        ack,
+    }
+}
+
 /// The frame at the front, whose body has that many bytes.
 pub fn frame_at(alloc: Global, unread: &[u8], body: usize) -> Result<Frame, NoMemory>
     requires whole { IsFront unread.now (Front.Whole body) }
     ensures frame { IfOk result (λ f. first_frame unread.now ≡ Some (f, drop (header_len f.wide + body) unread.now)) }
     ensures wide { IfOk result (λ f. f.wide ≡ is_wide unread.now) }
 {
-    let wide = is_wide(unread);
-    let header = header_len(wide);
-    let kind = kind_of(unread[0], wide);
-    let id = number(unread, wide, 1);
-    let ack = number(unread, wide, ack_place(wide));
+    let head = head_at(unread);
+    let header = header_len(head.wide);
     let body = Message::copy(alloc, &unread[header..header + body])?;
     Ok(Frame {
-        kind,
-        wide,
-        id,
-        ack,
+        kind: head.kind,
+        wide: head.wide,
+        id: head.id,
+        ack: head.ack,
         body,
     })
 }

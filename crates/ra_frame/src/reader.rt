@@ -4,17 +4,22 @@
 ghost use Rattle.std.specs.Prelude.{◌≡◌, ◌≤◌, ◌++◌, ℕ, List, [], length, drop, take, Ok, Err, Some, None, false, OnOk, OnErr, IfOk, IfErr, MatchOption, IfSome};
 ghost use Rattle.ra_model.specs.Frames.{Begins, HoldsNoFrame};
 ghost use Rattle.ra_model.specs.FirstFrame.{first_frame, is_too_long};
-ghost use Rattle.ra_frame.specs.Fronts.{IsPartial, IsTooLong};
+ghost use Rattle.ra_frame.specs.Fronts.{IsPartial, IsTooLong, IsAhead, head_of, states_above};
 ghost use Rattle.ra_frame.specs.FaultTexts.{fault_text};
 ghost use Rattle.ra_frame.specs.declared.reader.FrameFault.TheVariants.{NoMemory as OutOfMemory};
 
-use crate::front::{Front, frame_at, front_of, header_len};
+use crate::front::{
+    FrameHead, Front, ahead_of, frame_at, front_of, head_at, header_len, states_above,
+};
 use ra_base::{Message, NoMemory};
 use ra_model::Frame;
 use std::alloc::{AllocError, Global};
 use std::error::Error;
 use std::fmt;
 use std::marker::Model;
+
+/// The room that is kept for bytes: for a piece of 65,536, and a part of a frame before it.
+const KEPT: usize = 131_072;
 
 /// Why no frame is read.
 #[derive(Clone, Copy, Debug, PartialEq, Eq)]
@@ -100,14 +105,16 @@ impl FrameReader {
             self.buffer.copy_within(self.start.., 0);
             self.buffer.truncate(rest);
             self.start = 0;
+            self.buffer.shrink_to(KEPT);
         }
     }
 
-    /// Discards what is unread.
+    /// Discards what is unread, and gives up its room.
     pub fn clear(&mut self)
         ensures { self.new ≡ [] }
     {
-        self.buffer.clear();
+        let alloc = *self.buffer.allocator();
+        self.buffer = Vec::new(alloc);
         self.start = 0;
     }
 
@@ -149,13 +156,28 @@ impl FrameReader {
         }
     }
 
-    /// The first `len` bytes count as read.
+    /// The header of the next frame. It takes no memory.
+    pub fn head(&self) -> Option<FrameHead>
+        ensures { result ≡ head_of self.now }
+    {
+        let unread = self.unread();
+        match front_of(unread) {
+            Front::Whole { body: _ } => Some(head_at(unread)),
+            Front::Partial => None,
+            Front::TooLong { stated: _ } => None,
+        }
+    }
+
+    /// The first `len` bytes count as read. Where these are all, much room is given up.
     #[inline]
     pub fn skip(&mut self, len: usize)
         requires { len ≤ length self.old }
         ensures { self.new ≡ drop len self.old }
     {
         self.start += len;
+        if self.start == self.buffer.len() && self.buffer.capacity() > KEPT {
+            self.clear();
+        }
     }
 
     /// Keeps the first `len` unread bytes alone, and so takes back what was fed behind them. It takes no memory.
@@ -164,6 +186,20 @@ impl FrameReader {
         ensures { self.new ≡ take len self.old }
     {
         self.buffer.truncate(self.start + len);
+    }
+
+    /// The type of the next frame, and how many bytes it has, where a whole one is there. It takes no memory.
+    pub fn ahead(&self) -> Option<(u8, usize)>
+        ensures { IsAhead self.now result }
+    {
+        ahead_of(self.unread())
+    }
+
+    /// Whether the next header states a body longer than this limit, and within that of a frame. It takes no memory.
+    pub fn states_above(&self, limit: u32) -> bool
+        ensures { result ≡ states_above limit self.now }
+    {
+        states_above(self.unread(), limit)
     }
 
     /// Whether `next` has a frame or a `TooLong` to give.
