@@ -1,21 +1,23 @@
 -- What is seen to come is what is handed up, and stays so as long as what comes next does.
 use Rattle.std.specs.Prelude.{option_map}
 use Rattle.std.proofs.Common.{◌≡◌, ◌≤◌, ℕ, suc, Bool, true, false, cond, ◌&&◌, eqb, Option, Some, None, List, [], length, drop, refl, ap, sym, ◌∙◌, subst}
-use Rattle.std.proofs.lemmas.Bool.{cond-false, and_parts, eqb-true}
+use Rattle.std.proofs.lemmas.Bool.{cond-false, and_parts, and_right, eqb-true, false≢true, not-true, not-false}
 use Rattle.ra_model.specs.declared.frame.Frame.{Frame}
 use Rattle.ra_model.specs.declared.session.Phase.{Phase}
 use Rattle.ra_model.specs.declared.session.Up.{Up as Delivery}
 use Rattle.ra_model.specs.declared.session.Up.TheVariants.{Message, Quiet}
-use Rattle.ra_model.specs.FirstFrame.{first_frame}
+use Rattle.ra_model.specs.FirstFrame.{first_frame, is_too_long}
 use Rattle.ra_model.specs.FrameKinds.{FrameKind, frame_kind}
 use Rattle.ra_model.specs.FrameKinds.FrameKind.{Regular, Control, Disconnect, ReplayRequest, Pause, Resume, Other}
 use Rattle.ra_model.specs.Endpoints.{Endpoint, is_linked}
 use Rattle.ra_model.specs.EndpointStates.{EndpointState, IsConsistent, IsNext, StandsFor, with_said}
 use Rattle.ra_model.specs.HeardPlaces.{is_message}
 use Rattle.ra_model.specs.Taking.{next_frame, take_frame, delivery, delivery_of}
+use Rattle.ra_model.specs.Refusals.{take_fault}
+use Rattle.ra_model.proofs.Cuts.{found-not_too_long}
 use Rattle.ra_model.proofs.Stands.{delivery_is}
 use Rattle.ra_model.proofs.StandsTaking.{take_message, message_delivery}
-use Rattle.ra_proto.specs.Coming.{is_no_message, IsAtFront, IsNextMessage, SameReading}
+use Rattle.ra_proto.specs.Coming.{is_no_message, is_other, IsAtFront, IsNextMessage, SameReading}
 use Rattle.ra_proto.specs.Passed.{received}
 
 no_message_by : (a b c d e g next : Bool) (f : Frame) → (a && next) ≡ false
@@ -30,18 +32,36 @@ no_message_by false false false false false true next f is x same = refl
 no_message_by false false false false false false next f is x same = refl
 
 -- any other frame at the front
-pub other_comes : (f : Frame) (len n : ℕ) (s : EndpointState) → is_message (suc n) f ≡ false → IsAtFront f len n s → (e : Endpoint) → StandsFor s e → is_no_message (delivery e) ≡ true
-other_comes f len n s is front e h =
-    ap is_no_message (delivery_is f (drop len s.unread) s front.linked front.first e h)
-    ∙ no_message_by (eqb f.kind 1) (eqb f.kind 2) (eqb f.kind 5) (eqb f.kind 6) (eqb f.kind 7) (eqb f.kind 8) (eqb f.id (suc n)) f is (with_said 0 [] s) (ap (λ (k : ℕ). eqb f.id (suc k)) front.received)
+other_comes : (s : EndpointState) (next : Option (Frame × List ℕ)) → first_frame s.unread ≡ next → is_other s.received next ≡ true → is_linked s.phase ≡ true
+    → (e : Endpoint) → StandsFor s e → is_no_message (delivery e) ≡ true
+other_comes s None first is linked e h = absurd (false≢true is)
+other_comes s (Some (f, rest)) first is linked e h =
+    ap is_no_message (delivery_is f rest s linked first e h)
+    ∙ no_message_by (eqb f.kind 1) (eqb f.kind 2) (eqb f.kind 5) (eqb f.kind 6) (eqb f.kind 7) (eqb f.kind 8) (eqb f.id (suc s.received)) f (not-true _ is) (with_said 0 [] s) refl
+
+pub other_delivery : (s : EndpointState) → is_other s.received (first_frame s.unread) ≡ true → is_linked s.phase ≡ true
+    → (e : Endpoint) → StandsFor s e → is_no_message (delivery e) ≡ true
+other_delivery s is linked e h = other_comes s (first_frame s.unread) refl is linked e h
+
+other_fits : (text : List ℕ) (last : ℕ) (next : Option (Frame × List ℕ)) → first_frame text ≡ next → is_other last next ≡ true → is_too_long text ≡ false
+other_fits text last None first is = absurd (false≢true is)
+other_fits text last (Some p) first is = found-not_too_long text p first
+
+-- and it is no header that states too long a body
+pub other_admits : (s : EndpointState) → is_other s.received (first_frame s.unread) ≡ true → take_fault s.phase s.unread ≡ None
+other_admits s is = cond-false _ _ _ (and_right _ _ (other_fits s.unread s.received (first_frame s.unread) refl is))
+
+-- where it is not another, it is the next
+pub not_other : (f : Frame) (rest : List ℕ) (s : EndpointState) → first_frame s.unread ≡ Some (f, rest) → is_other s.received (first_frame s.unread) ≡ false → is_message (suc s.received) f ≡ true
+not_other f rest s first is = not-false _ (sym (ap (λ (p : Option (Frame × List ℕ)). is_other s.received p) first) ∙ is)
 
 -- the next message at the front
-pub next_comes : (f : Frame) (len n : ℕ) (s : EndpointState) → is_message (suc n) f ≡ true → IsAtFront f len n s → IsNextMessage f.id f.ack len s
-next_comes f len n s is front =
-    let both : (eqb f.kind 1 ≡ true) × (eqb f.id (suc n) ≡ true) = and_parts _ _ is in
+pub next_comes : (f : Frame) (len : ℕ) (s : EndpointState) → is_message (suc s.received) f ≡ true → IsAtFront f len s → IsNextMessage f.id f.ack len s
+next_comes f len s is front =
+    let both : (eqb f.kind 1 ≡ true) × (eqb f.id (suc s.received) ≡ true) = and_parts _ _ is in
     record {
       linked = front.linked;
-      next = eqb-true f.id (suc n) both.1 ∙ sym (ap suc front.received);
+      next = eqb-true f.id (suc s.received) both.1;
       frame = f;
       first = front.first;
       within = front.within;
@@ -59,9 +79,9 @@ next_delivery {len = len} {s = s} m e h =
     message_delivery m.frame (drop len s.unread) s (is_next m) (m.frame_id ∙ m.next) e h
     ∙ ap (λ (n : ℕ). Some (Message n m.frame.body)) m.frame_id
 
-pub front_delivery : (f : Frame) (len n : ℕ) (s : EndpointState) → is_message (suc n) f ≡ true → IsAtFront f len n s → (e : Endpoint) → StandsFor s e → delivery e ≡ Some (Message f.id f.body)
+pub front_delivery : (f : Frame) (len : ℕ) (s : EndpointState) → is_message (suc s.received) f ≡ true → IsAtFront f len s → (e : Endpoint) → StandsFor s e → delivery e ≡ Some (Message f.id f.body)
 unfolding next_comes
-front_delivery f len n s is front = next_delivery (next_comes f len n s is front)
+front_delivery f len s is front = next_delivery (next_comes f len s is front)
 
 -- once it counts as handed up, and its frame is gone
 pub next_taken : {id ack len : ℕ} {s : EndpointState} → (m : IsNextMessage id ack len s) (now : ℕ) → IsConsistent s → (e : Endpoint) → StandsFor s e

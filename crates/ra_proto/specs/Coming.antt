@@ -1,11 +1,12 @@
 -- What an endpoint sees to come before it takes it, and the next message among its unread bytes.
-use Rattle.std.specs.Prelude.{◌≡◌, ◌≤◌, ℕ, suc, Bool, true, false, length, drop, Option, Some, None}
+use Rattle.std.specs.Prelude.{◌≡◌, ◌≤◌, ℕ, suc, Bool, true, false, not, List, length, drop, Option, Some, None}
 use Rattle.ra_model.specs.declared.frame.Frame.{Frame}
 use Rattle.ra_model.specs.declared.session.Up.{Up as Delivery}
 use Rattle.ra_model.specs.declared.session.Up.TheVariants.{Message as MessageUp, Control as ControlUp, Quiet, Ended}
 use Rattle.ra_model.specs.FirstFrame.{first_frame}
 use Rattle.ra_model.specs.Endpoints.{is_linked}
 use Rattle.ra_model.specs.EndpointStates.{EndpointState}
+use Rattle.ra_model.specs.HeardPlaces.{is_message}
 use Rattle.ra_proto.specs.declared.coming.Coming.{Coming}
 use Rattle.ra_proto.specs.declared.coming.Coming.TheVariants.{Nothing, Message, Other}
 
@@ -23,10 +24,14 @@ Agrees Nothing up = up ≡ None
 Agrees (Message m) up = up ≡ Some (MessageUp m.id m.body)
 Agrees Other up = is_no_message up ≡ true
 
--- this frame with this many bytes begins the unread ones, and this is the last id that was handed up
-pub record IsAtFront (frame : Frame) (len last : ℕ) (s : EndpointState) : Type 0 where
+-- the first frame, where there is one, is not the message behind this id
+abbrev pub is_other : ℕ → Option (Frame × List ℕ) → Bool
+is_other last None = false
+is_other last (Some next) = not (is_message (suc last) next.0)
+
+-- this frame with this many bytes begins the unread ones
+pub record IsAtFront (frame : Frame) (len : ℕ) (s : EndpointState) : Type 0 where
   pub linked : is_linked s.phase ≡ true
-  pub received : s.received ≡ last
   pub first : first_frame s.unread ≡ Some (frame, drop len s.unread)
   pub within : len ≤ length s.unread
 

@@ -1,9 +1,7 @@
 //! Frames that come.
-ghost use Rattle.std.specs.Prelude.{◌≡◌, ◌==◌, ◌≢◌, ◌<◌, ◌&&◌, not, true, false, cond, max, if◌then◌else◌, Some, OnOk, OnErr, IfOk, IfErr, [], suc, nat_lt, ℕ, List};
+ghost use Rattle.std.specs.Prelude.{◌≡◌, ◌==◌, ◌≢◌, ◌<◌, ◌&&◌, not, true, false, cond, max, if◌then◌else◌, Some, OnOk, OnErr, IfOk, IfErr, [], suc, nat_lt};
 ghost use Rattle.ra_model.specs.EndpointStates.{StandsFor, IsConsistent};
-ghost use Rattle.ra_model.specs.Endpoints.{Endpoint as AbstractEndpoint, is_linked};
-ghost use Rattle.ra_model.specs.declared.frame.Frame.{Frame as AbstractFrame};
-ghost use Rattle.ra_model.specs.FirstFrame.{first_frame};
+ghost use Rattle.ra_model.specs.Endpoints.{Endpoint as AbstractEndpoint, is_linked, is_ended};
 ghost use Rattle.ra_model.specs.FrameKinds.{frame_kind};
 ghost use Rattle.ra_model.specs.FrameKinds.FrameKind.{Regular, Disconnect, ReplayRequest, Pause, Resume};
 ghost use Rattle.ra_model.specs.Calls.{moment};
@@ -16,7 +14,7 @@ ghost use Rattle.ra_proto.specs.Refused.{RefusedBy};
 
 use crate::endpoint::{Endpoint, later};
 use crate::writing::{append_rest, waits};
-use ra_base::{Message, Moment, NoMemory};
+use ra_base::Moment;
 use ra_frame::FrameFault;
 use ra_model::{EndFault, Frame, Phase, Timing, Up};
 use ra_timer::alarms::{asked_lately, heard_where, watched};
@@ -210,24 +208,12 @@ impl Endpoint {
         }
     }
 
-    /// A copy of the body of the next frame of the unread bytes. It is empty where no whole frame is there.
-    pub fn next_body(&self) -> Result<Message, NoMemory>
-        ensures { IfOk result (λ body. (frame : AbstractFrame) (rest : List ℕ) → first_frame self.now.unread ≡ Some (frame, rest) → body ≡ frame.body) }
-    {
-        let alloc = self.unwritten.allocator();
-        match self.unread.peek(alloc) {
-            Ok(Some((frame, _))) => Ok(frame.body),
-            Ok(None) => Ok(Message::empty(alloc)),
-            Err(FrameFault::TooLong { stated: _ }) => Ok(Message::empty(alloc)),
-            Err(FrameFault::NoMemory) => Err(NoMemory),
-        }
-    }
-
     /// The next frame of the unread bytes is applied, where a whole one is there.
     pub fn next(&mut self, now: Moment) -> Result<Option<Up>, EndFault>
         ensures stands { OnOk result ((e : AbstractEndpoint) → StandsFor self.old e → StandsFor self.new (take_frame now e)) }
         ensures handed { IfOk result (λ up. (e : AbstractEndpoint) → StandsFor self.old e → up ≡ delivery e) }
         ensures epoch { OnOk result (self.new.epoch ≡ self.old.epoch) }
+        ensures going { IfOk result (λ up. up ≢ Some Up.Ended → is_ended self.old.phase ≡ false → is_ended self.new.phase ≡ false) }
         ensures refused { RefusedBy result (take_fault self.old.phase self.old.unread) }
         ensures err { OnErr result (self.new ≡ self.old) }
     {

@@ -1,17 +1,18 @@
 //! What comes next, seen before it is taken; and the taking of a message, which needs no memory.
-ghost use Rattle.std.specs.Prelude.{◌≡◌, suc, drop, IfOk};
+ghost use Rattle.std.specs.Prelude.{◌≡◌, ◌==◌, ◌&&◌, true, suc, drop, IfOk};
 ghost use Rattle.ra_model.specs.EndpointStates.{EndpointState, StandsFor};
 ghost use Rattle.ra_model.specs.Endpoints.{Endpoint as AbstractEndpoint};
+ghost use Rattle.ra_model.specs.FirstFrame.{first_frame};
 ghost use Rattle.ra_model.specs.HeardPlaces.{is_message};
 ghost use Rattle.ra_model.specs.Refusals.{take_fault};
 ghost use Rattle.ra_model.specs.Taking.{take_frame, delivery};
-ghost use Rattle.ra_proto.specs.Coming.{Agrees, ComesNext, IsAtFront, IsNextMessage};
+ghost use Rattle.ra_proto.specs.Coming.{Agrees, ComesNext, IsAtFront, IsNextMessage, is_other};
 ghost use Rattle.ra_proto.specs.Refused.{RefusedBy};
 
 use crate::applying::is_next;
 use crate::endpoint::Endpoint;
 use ra_base::{Message, Moment};
-use ra_frame::FrameFault;
+use ra_frame::{FrameFault, FrameHead};
 use ra_model::{EndFault, Frame};
 
 /// The next message, which is still unread.
@@ -37,20 +38,17 @@ pub enum Coming {
 }
 
 /// The frame is the next message, where the last id that was handed up is this one.
-fn is_next_message(frame: &Frame, received: u64) -> bool
-    ensures { result ≡ is_message (suc received) frame.now }
+fn is_next_message(head: &FrameHead, received: u64) -> bool
+    ensures { result ≡ ((head.now.kind == 1) && (head.now.id == suc received)) }
 {
-    frame.kind == 1 && is_next(frame.id, received)
+    head.kind == 1 && is_next(head.id, received)
 }
 
-/// What the frame at the front of the unread bytes is.
-fn coming_of(frame: Frame, len: usize, received: u64) -> Coming
-    ensures next { (s : EndpointState) → IsAtFront frame len received s → ComesNext result s }
-    ensures agrees { (s : EndpointState) → IsAtFront frame len received s → (e : AbstractEndpoint) → StandsFor s e → Agrees result (delivery e) }
+/// The next message, which is the frame at the front of the unread bytes.
+fn message_of(frame: Frame, len: usize) -> Coming
+    ensures next { (s : EndpointState) → IsAtFront frame len s → is_message (suc s.received) frame ≡ true → ComesNext result s }
+    ensures agrees { (s : EndpointState) → IsAtFront frame len s → is_message (suc s.received) frame ≡ true → (e : AbstractEndpoint) → StandsFor s e → Agrees result (delivery e) }
 {
-    if !is_next_message(&frame, received) {
-        return Coming::Other;
-    }
     Coming::Message {
         message: NextMessage {
             id: frame.id,
@@ -62,7 +60,17 @@ fn coming_of(frame: Frame, len: usize, received: u64) -> Coming
 }
 
 impl Endpoint {
-    /// What `next` would hand up. A message comes with a copy of its body.
+    /// A whole frame is unread, and is not the next message.
+    fn has_other(&self) -> bool
+        ensures { result ≡ is_other self.now.received (first_frame self.now.unread) }
+    {
+        match self.unread.head() {
+            Some(head) => !is_next_message(&head, self.received),
+            None => false,
+        }
+    }
+
+    /// What `next` would hand up. A message comes with a copy of its body; nothing else takes memory.
     pub fn peek(&self) -> Result<Coming, EndFault>
         ensures agrees { IfOk result (λ coming. (e : AbstractEndpoint) → StandsFor self.now e → Agrees coming (delivery e)) }
         ensures next { IfOk result (λ coming. ComesNext coming self.now) }
@@ -71,9 +79,12 @@ impl Endpoint {
         if !self.phase.is_linked() {
             return Ok(Coming::Nothing);
         }
+        if self.has_other() {
+            return Ok(Coming::Other);
+        }
         match self.unread.peek(self.unwritten.allocator()) {
             Ok(None) => Ok(Coming::Nothing),
-            Ok(Some((frame, len))) => Ok(coming_of(frame, len, self.received)),
+            Ok(Some((frame, len))) => Ok(message_of(frame, len)),
             Err(FrameFault::TooLong { stated }) => Err(EndFault::TooLong { stated }),
             Err(FrameFault::NoMemory) => Err(EndFault::NoMemory),
         }

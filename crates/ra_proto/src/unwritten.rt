@@ -9,6 +9,9 @@ use std::alloc::Global;
 use std::marker::Model;
 use std::mem;
 
+/// The most room that is kept where no bytes are left.
+const KEPT: usize = 131_072;
+
 /// Bytes that grow at the end, and leave at the front.
 #[derive(Drop)]
 pub struct Unwritten {
@@ -24,6 +27,19 @@ impl Model for Unwritten {
     ghost view = { λ u. drop u.start u.bytes.items };
 
     ghost invariant = { λ u. u.start ≤ length u.bytes.items };
+}
+
+/// The bytes from this place on are kept alone.
+fn keep_behind(bytes: &mut Vec<u8>, start: usize)
+    requires { start ≤ length bytes.old.items }
+    ensures { bytes.new.items ≡ drop start bytes.old.items }
+{
+    if start == 0 {
+        return;
+    }
+    let rest = bytes.len() - start;
+    bytes.copy_within(start.., 0);
+    bytes.truncate(rest);
 }
 
 impl Unwritten {
@@ -77,7 +93,7 @@ impl Unwritten {
         self.bytes.truncate(self.start + len);
     }
 
-    /// The first n bytes are gone. The rest moves once it is no longer than what is gone.
+    /// The first n bytes are gone. The rest moves once it is no longer than what is gone; much room is then given up.
     pub fn advance(&mut self, n: usize)
         requires { n ≤ length self.old }
         ensures { self.new ≡ drop n self.old }
@@ -85,16 +101,18 @@ impl Unwritten {
         self.start += n;
         let rest = self.bytes.len() - self.start;
         if rest <= self.start {
-            self.bytes.copy_within(self.start.., 0);
-            self.bytes.truncate(rest);
+            keep_behind(&mut self.bytes, self.start);
             self.start = 0;
+            self.bytes.shrink_to(KEPT);
         }
     }
 
+    /// All bytes are gone, and their room is given up.
     pub fn clear(&mut self)
         ensures { self.new ≡ [] }
     {
-        self.bytes.clear();
+        let alloc = *self.bytes.allocator();
+        self.bytes = Vec::new(alloc);
         self.start = 0;
     }
 
@@ -103,9 +121,7 @@ impl Unwritten {
         ensures taken { result ≡ self.old }
         ensures left { self.new ≡ [] }
     {
-        let rest = self.bytes.len() - self.start;
-        self.bytes.copy_within(self.start.., 0);
-        self.bytes.truncate(rest);
+        keep_behind(&mut self.bytes, self.start);
         self.start = 0;
         let alloc = *self.bytes.allocator();
         Message::from_vec(mem::replace(&mut self.bytes, Vec::new(alloc)))

@@ -1,7 +1,7 @@
 -- What the calls of a peer in memory stand for.
-use Rattle.std.proofs.Common.{◌≡◌, ℕ, Bool, Option, Some, None, true, false, not, ◌+◌, [], ◌∷◌, ◌++◌, Result, Ok, Err, OnOk, List, refl, ap, sym, ◌∙◌, subst, cond, ◌&&◌, leb, length, eqb}
-use Rattle.std.specs.Prelude.{◌≢◌, suc, option_map}
-use Rattle.std.proofs.lemmas.Bool.{cond_both}
+use Rattle.std.proofs.Common.{◌≡◌, ℕ, Bool, Option, Some, None, true, not, ◌+◌, [], ◌∷◌, ◌++◌, Result, Ok, Err, OnOk, List, refl, ap, sym, ◌∙◌, subst, cond, ◌&&◌, leb, length, eqb}
+use Rattle.std.specs.Prelude.{◌≢◌, option_map}
+use Rattle.std.proofs.lemmas.Bool.{cond_both, false≢true}
 use Rattle.std.proofs.lemmas.List.{map-append}
 use Rattle.ra_base.specs.declared.event.Side.{Side}
 use Rattle.ra_base.specs.declared.event.Event.{Event}
@@ -20,16 +20,15 @@ use Rattle.ra_model.specs.Calls.{rewritten, say, said_now, dated, moment, can_sa
 use Rattle.ra_model.specs.Refusals.{at_end, say_refusal, say_fault, take_refusal, take_fault}
 use Rattle.ra_model.specs.declared.session.Up.{Up as Delivery}
 use Rattle.ra_model.specs.declared.session.Up.TheVariants.{Message, Control as ControlBody, Quiet, Ended as Over}
-use Rattle.ra_model.specs.FirstFrame.{first_frame}
 use Rattle.ra_model.specs.Taking.{take_frame, delivery, delivery_of, took, next_frame, passed}
-use Rattle.ra_model.specs.FrameKinds.{FrameKind, frame_kind}
-use Rattle.ra_model.specs.FrameKinds.FrameKind.{Regular, Control as ControlKind, Disconnect, ReplayRequest, Pause as PauseKind, Resume as ResumeKind, Other}
+use Rattle.ra_model.specs.FrameKinds.{frame_kind}
 use Rattle.ra_model.specs.Events.{taken, handed_up, heard_with}
 use Rattle.ra_model.proofs.Takes.{messages_came}
 use Rattle.ra_model.proofs.Calls.{messages_rewritten}
 use Rattle.ra_model.proofs.Runs.{says_free}
 use Rattle.ra_model.specs.Worlds.{Peer}
 use Rattle.ra_model.specs.Pairs.{messages, body_of}
+use Rattle.ra_proto.specs.Coming.{is_no_message}
 use Rattle.ra_proto.specs.Refused.{RefusedBy as EndRefusedBy}
 use Rattle.ra_world.specs.Outcomes.{Answers, event_fault, done_of}
 use Rattle.ra_world.specs.WorldStates.{PeerState, StandsForPeer}
@@ -142,53 +141,37 @@ take_answers s x t up heard now same more free stands handed p h =
       },
     )
 
--- what else is handed up is not heard
-pub unheard : (up : Delivery) (heard before : List (List ℕ)) → ((id : ℕ) (body : List ℕ) → up ≡ Message id body → ⊥) → heard ≡ before → heard ≡ heard_with (Some up) before
-unheard (Message id body) heard before other same = absurd (other id body refl)
-unheard (ControlBody body) heard before other same = same
-unheard Quiet heard before other same = same
-unheard Over heard before other same = same
+-- nothing comes
+none_stays : (now : ℕ) (e : Endpoint) → delivery e ≡ None → take_frame now e ≡ e
+unfolding take_frame delivery
+none_stays now e is = none_took now e (next_frame e) is
+  where
+    none_took : (now : ℕ) (e : Endpoint) (next : Option (Frame × List ℕ)) → option_map (λ (n : Frame × List ℕ). delivery_of (frame_kind n.0.kind) n.0 e) next ≡ None
+        → took next (moment now e) e ≡ e
+    none_took now e None is = refl
+    none_took now e (Some next) is = absurd cc
 
--- ---- the body of a message that is handed up is that of the next frame
+pub none_answers : (s : PeerState) (now : ℕ) → take_fault s.endpoint.phase s.endpoint.unread ≡ None → ((e : Endpoint) → StandsFor s.endpoint e → delivery e ≡ None) → (p : Peer) → StandsForPeer s p
+    → (at_end (take_refusal p.endpoint) ≡ None) × (handed_up None ≡ handed_up (delivery p.endpoint)) × StandsForPeer s (taken now p)
+none_answers s now free none =
+    take_answers s s.endpoint s.endpoint None s.heard now refl refl free
+    (λ e stands. subst (λ (x : Endpoint). StandsFor s.endpoint x) (sym (none_stays now e (none e stands))) stands) (λ e stands. sym (none e stands))
 
-regular_body : (b : Bool) (id : ℕ) (body : List ℕ) (f : Frame) → Message id body ≡ cond b (Message f.id f.body) Quiet → f.body ≡ body
-regular_body true id body f is = cc
-regular_body false id body f is = absurd cc
+-- what comes is no message
+no_message_heard : (up : Option Delivery) (heard : List (List ℕ)) → is_no_message up ≡ true → heard ≡ heard_with up heard
+no_message_heard None heard is = refl
+no_message_heard (Some (Message id body)) heard is = absurd (false≢true is)
+no_message_heard (Some (ControlBody body)) heard is = refl
+no_message_heard (Some Quiet) heard is = refl
+no_message_heard (Some Over) heard is = refl
 
-handed_body : (k : FrameKind) (id : ℕ) (body : List ℕ) (f : Frame) (e : Endpoint) → Message id body ≡ delivery_of k f e → f.body ≡ body
-handed_body Regular id body f e is = regular_body (eqb f.id (suc e.received)) id body f is
-handed_body ControlKind id body f e is = absurd cc
-handed_body Disconnect id body f e is = absurd cc
-handed_body ReplayRequest id body f e is = absurd cc
-handed_body PauseKind id body f e is = absurd cc
-handed_body ResumeKind id body f e is = absurd cc
-handed_body Other id body f e is = absurd cc
-
-some_same : (x y : Delivery) → Some x ≡ Some y → x ≡ y
-some_same x y is = cc
-
-found_body : (found : Option (Frame × List ℕ)) (id : ℕ) (kept body : List ℕ) (e : Endpoint) → ((f : Frame) (rest : List ℕ) → found ≡ Some (f, rest) → kept ≡ f.body)
-    → Some (Message id body) ≡ option_map (λ (next : Frame × List ℕ). delivery_of (frame_kind next.0.kind) next.0 e) found → kept ≡ body
-found_body None id kept body e is handed = absurd cc
-found_body (Some next) id kept body e is handed = is next.0 next.1 refl ∙ handed_body (frame_kind next.0.kind) id body next.0 e (some_same _ _ handed)
-
-linked_body : (b : Bool) (found : Option (Frame × List ℕ)) (id : ℕ) (kept body : List ℕ) (e : Endpoint) → ((f : Frame) (rest : List ℕ) → found ≡ Some (f, rest) → kept ≡ f.body)
-    → Some (Message id body) ≡ option_map (λ (next : Frame × List ℕ). delivery_of (frame_kind next.0.kind) next.0 e) (cond b found None) → kept ≡ body
-linked_body true found id kept body e is handed = found_body found id kept body e is handed
-linked_body false found id kept body e is handed = absurd cc
-
-message_body : (id : ℕ) (kept body : List ℕ) (e : Endpoint) → ((f : Frame) (rest : List ℕ) → first_frame e.unread ≡ Some (f, rest) → kept ≡ f.body) → Some (Message id body) ≡ delivery e → kept ≡ body
-unfolding delivery
-message_body id kept body e is handed = linked_body (is_linked e.phase) (first_frame e.unread) id kept body e is handed
-
-pub message_answers : (s : PeerState) (t : EndpointState) (id : ℕ) (body kept : List ℕ) (heard : List (List ℕ)) (now : ℕ) → heard ≡ s.heard ++ kept ∷ []
-    → ((f : Frame) (rest : List ℕ) → first_frame s.endpoint.unread ≡ Some (f, rest) → kept ≡ f.body) → take_fault s.endpoint.phase s.endpoint.unread ≡ None
-    → ((e : Endpoint) → StandsFor s.endpoint e → StandsFor t (take_frame now e)) → ((e : Endpoint) → StandsFor s.endpoint e → Some (Message id body) ≡ delivery e) → (p : Peer) → StandsForPeer s p
-    → (at_end (take_refusal p.endpoint) ≡ None) × (handed_up (Some (Message id body)) ≡ handed_up (delivery p.endpoint)) × StandsForPeer (record { endpoint = t; said = s.said; heard = heard }) (taken now p)
-message_answers s t id body kept heard now more copied free stands handed p h =
-    let unread : p.endpoint.unread ≡ s.endpoint.unread = ap (λ (e : Endpoint). e.unread) h.endpoint.same in
-    let same : kept ≡ body = message_body id kept body p.endpoint (λ f rest is. copied f rest (ap first_frame (sym unread) ∙ is)) (handed p.endpoint h.endpoint) in
-    take_answers s s.endpoint t (Some (Message id body)) heard now refl (more ∙ ap (λ (x : List ℕ). s.heard ++ x ∷ []) same) free stands handed p h
+pub other_answers : (s : PeerState) (t : EndpointState) (up : Option Delivery) (now : ℕ) → take_fault s.endpoint.phase s.endpoint.unread ≡ None
+    → ((e : Endpoint) → StandsFor s.endpoint e → StandsFor t (take_frame now e)) → ((e : Endpoint) → StandsFor s.endpoint e → up ≡ delivery e)
+    → ((e : Endpoint) → StandsFor s.endpoint e → is_no_message (delivery e) ≡ true) → (p : Peer) → StandsForPeer s p
+    → (at_end (take_refusal p.endpoint) ≡ None) × (handed_up up ≡ handed_up (delivery p.endpoint)) × StandsForPeer (record { endpoint = t; said = s.said; heard = s.heard }) (taken now p)
+other_answers s t up now free stands handed other p h =
+    let quiet : is_no_message up ≡ true = ap is_no_message (handed p.endpoint h.endpoint) ∙ other p.endpoint h.endpoint in
+    take_answers s s.endpoint t up s.heard now refl (no_message_heard up s.heard quiet) free stands handed p h
 
 pub lose_stands : (s : PeerState) (t : EndpointState) (present : ℕ) → present ≡ s.endpoint.epoch → ((e : Endpoint) → StandsFor s.endpoint e → StandsFor t (lose present e)) → (p : Peer) → StandsForPeer s p
     → StandsForPeer (record { endpoint = t; said = s.said; heard = s.heard }) (called (lose p.endpoint.epoch) p)

@@ -1,12 +1,14 @@
 //! An endpoint with the messages that it said and heard.
-ghost use Rattle.std.specs.Prelude.{◌≡◌, ◌≤◌, ◌+◌, length, drop, Some, None, OnErr};
+ghost use Rattle.std.specs.Prelude.{◌≡◌, ◌≤◌, ◌+◌, length, drop, true, Some, None, OnErr};
 ghost use Rattle.ra_model.specs.Calls.{say, feed, wrote, tick, times_out, lose};
 ghost use Rattle.ra_model.specs.Worlds.{Peer as AbstractPeer};
 ghost use Rattle.ra_model.specs.Events.{begun, taken, handed_up};
 ghost use Rattle.ra_model.specs.Taking.{delivery};
-ghost use Rattle.ra_model.specs.Endpoints.{sent};
+ghost use Rattle.ra_model.specs.Endpoints.{Endpoint as AbstractEndpoint, sent};
+ghost use Rattle.ra_model.specs.EndpointStates.{StandsFor};
 ghost use Rattle.ra_model.specs.Views.{new_peer, called};
-ghost use Rattle.ra_model.specs.Refusals.{at_end, begin_refusal, feed_refusal, take_refusal, say_refusal};
+ghost use Rattle.ra_model.specs.Refusals.{at_end, begin_refusal, feed_refusal, take_fault, take_refusal, say_refusal};
+ghost use Rattle.ra_proto.specs.Coming.{IsNextMessage, is_no_message};
 ghost use Rattle.ra_proto.specs.Shown.{shown_of};
 ghost use Rattle.ra_world.specs.EndEvents.{end_refusal, end_happens, end_effect};
 ghost use Rattle.ra_world.specs.Outcomes.{Answers, event_fault, done_of};
@@ -14,7 +16,7 @@ ghost use Rattle.ra_world.specs.WorldStates.{StandsForPeer};
 
 use ra_base::{Event, Message, Moment};
 use ra_model::{Effect, EndFault, EventFault, Up};
-use ra_proto::Endpoint;
+use ra_proto::{Coming, Endpoint, NextMessage};
 use std::alloc::Global;
 use std::marker::Model;
 
@@ -35,6 +37,16 @@ fn done<T: Drop>(called: Result<T, EndFault>) -> Result<Effect, EventFault>
     match called {
         Ok(_) => Ok(Effect::Done),
         Err(fault) => Err(fault_of(fault)),
+    }
+}
+
+/// What is handed up, as an effect.
+fn effect_of(up: Option<Up>) -> Effect
+    ensures { result ≡ handed_up up }
+{
+    match up {
+        Some(up) => Effect::Up { up },
+        None => Effect::Nothing,
     }
 }
 
@@ -82,20 +94,47 @@ impl Peer {
         }
     }
 
+    /// The next message is heard.
+    fn hear(&mut self, next: NextMessage, now: Moment) -> Result<Effect, EventFault>
+        requires next { IsNextMessage next.id next.ack next.len self.old.endpoint }
+        requires handed { (e : AbstractEndpoint) → StandsFor self.old.endpoint e → delivery e ≡ Some (Up.Message next.id next.body) }
+        requires free { take_fault self.old.endpoint.phase self.old.endpoint.unread ≡ None }
+        ensures does { (p : AbstractPeer) → StandsForPeer self.old p → Answers result (at_end (take_refusal p.endpoint)) (handed_up (delivery p.endpoint)) (StandsForPeer self.new (taken now p)) }
+        ensures err { OnErr result (self.new ≡ self.old) }
+    {
+        let kept = Message::copy(*self.heard.allocator(), next.body.as_slice())?;
+        self.heard.reserve(1)?;
+        self.endpoint.take_message(next.id, next.ack, next.len, now);
+        self.heard.push(kept).unwrap();
+        Ok(Effect::Up {
+            up: Up::Message {
+                id: next.id,
+                body: next.body,
+            },
+        })
+    }
+
+    /// The next frame, which is no message to be heard, is applied.
+    fn take_other(&mut self, now: Moment) -> Result<Effect, EventFault>
+        requires { (e : AbstractEndpoint) → StandsFor self.old.endpoint e → is_no_message (delivery e) ≡ true }
+        ensures does { (p : AbstractPeer) → StandsForPeer self.old p → Answers result (at_end (take_refusal p.endpoint)) (handed_up (delivery p.endpoint)) (StandsForPeer self.new (taken now p)) }
+        ensures err { OnErr result (self.new ≡ self.old) }
+    {
+        let up = match self.endpoint.next(now) {
+            Ok(up) => up,
+            Err(fault) => return Err(fault_of(fault)),
+        };
+        Ok(effect_of(up))
+    }
+
     fn take(&mut self, now: Moment) -> Result<Effect, EventFault>
         ensures does { (p : AbstractPeer) → StandsForPeer self.old p → Answers result (at_end (take_refusal p.endpoint)) (handed_up (delivery p.endpoint)) (StandsForPeer self.new (taken now p)) }
         ensures err { OnErr result (self.new ≡ self.old) }
     {
-        let body = self.endpoint.next_body()?;
-        self.heard.reserve(1)?;
-        match self.endpoint.next(now) {
-            Ok(None) => Ok(Effect::Nothing),
-            Ok(Some(up)) => {
-                if let Up::Message { id: _, body: _ } = &up {
-                    self.heard.push(body).unwrap();
-                }
-                Ok(Effect::Up { up })
-            }
+        match self.endpoint.peek() {
+            Ok(Coming::Nothing) => Ok(Effect::Nothing),
+            Ok(Coming::Other) => self.take_other(now),
+            Ok(Coming::Message { message }) => self.hear(message, now),
             Err(fault) => Err(fault_of(fault)),
         }
     }

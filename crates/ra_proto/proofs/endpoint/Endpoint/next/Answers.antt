@@ -9,6 +9,7 @@ use Rattle.ra_model.proofs.Cuts.{found-not_too_long}
 use Rattle.ra_model.proofs.Stands.{take_none_stands}
 use Rattle.ra_model.proofs.StandsTaking.{delivery_none}
 use Rattle.ra_frame.specs.Fronts.{IsPartial}
+use Rattle.ra_proto.proofs.Existing.{next_goes}
 use Rattle.ra_proto.proofs.ReadFrame.{read_stands, left_stands, read_delivery}
 use Rattle.ra_proto.proofs.endpoint.Endpoint.next.Goals as goal
 
@@ -71,3 +72,11 @@ pub returns-else-leaves-clause-refused : goal.returns-else-leaves-clause-refused
 returns-else-leaves-clause-refused c =
     let found : (first_frame c.self.inside.unread ≡ Some (c.in-Ok-Some.frame, drop c.in-Ok-Some.len c.self.inside.unread)) × (c.in-Ok-Some.len ≤ length c.self.inside.unread) = rw (c.in-Ok-Some.field-0-is) at c.in-Ok-Some.ensures.found in
     rw (← c.self.view_is) (cond-false _ _ _ (and_right _ _ (found-not_too_long c.self.inside.unread _ found.0)))
+
+pub returns-then-leaves-clause-going : goal.returns-then-leaves-clause-going
+returns-then-leaves-clause-going c =
+    next_goes c.args.self.now _ c.args.now _ (rw (← c.self.view_is) c.self.invariant.0) (returns-then-leaves-clause-stands c) (returns-then-leaves-clause-handed c)
+
+pub returns-else-leaves-clause-going : goal.returns-else-leaves-clause-going
+returns-else-leaves-clause-going c =
+    next_goes c.args.self.now _ c.args.now _ (rw (← c.self.view_is) c.self.invariant.0) (returns-else-leaves-clause-stands c) (returns-else-leaves-clause-handed c)
