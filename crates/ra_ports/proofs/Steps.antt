@@ -1,5 +1,5 @@
 -- What one call gives of the steps of a link in memory.
-use Rattle.std.proofs.Common.{◌≡◌, inl, inr, ℕ, ◌+◌, ◌-◌, ◌<◌, ◌≤◌, Bool, cond, List, [], ◌∷◌, ◌++◌, length, get_or, take, drop, min, Result, Ok, Err, All, refl, sym, ap, subst, ◌∙◌, arith, append_assoc}
+use Rattle.std.proofs.Common.{◌≡◌, inl, inr, ℕ, ◌+◌, ◌-◌, ◌<◌, ◌≤◌, cond, List, [], ◌∷◌, ◌++◌, length, get_or, take, drop, min, Result, Ok, Err, All, refl, sym, ap, subst, ◌∙◌, arith, append_assoc}
 use Rattle.std.specs.Prelude.{nat_le}
 use Rattle.std.proofs.lemmas.Grind.{common_steps}
 use Rattle.std.proofs.lemmas.List.{drop_more, drop-drop, take-append-drop, length-drop, take_all}
@@ -12,7 +12,6 @@ use Rattle.ra_ports.specs.declared.link_step.LinkStep.TheVariants.{Piece, Idle, 
 use Rattle.ra_ports.specs.Links.{IsPiece, got_bytes}
 use Rattle.ra_ports.specs.LinkSteps.{steps_bytes, steps_left, behind_bytes, next_step, IsFilled, IsInFront, IsStepPlace}
 use Rattle.ra_ports.specs.Giving.{Gives, GivesPiece, Moves}
-use Rattle.ra_ports.specs.LinkScripts.{told_of}
 
 -- no byte of the first step is gone
 behind_none : (steps : List LinkStep) → behind_bytes 0 steps ≡ steps
@@ -158,12 +157,3 @@ pub gives_piece : (steps : List LinkStep) (at from : ℕ) (bytes : List ℕ) (an
 gives_piece steps at from bytes answer next_at next_from into place inside is room gives =
     subst (λ (r : Result Got Failed). Gives steps at from r next_at next_from into) (sym gives.answered)
     (moved steps at from gives.n next_at next_from bytes into place inside (step_at steps at (Piece bytes) inside is) gives.copied room gives.n_is gives.moves)
-
--- a link that goes over to frames gives the other steps from their first on
-pub steps_anew : (steps : List LinkStep) → steps_left steps 0 0 ≡ steps
-steps_anew steps = behind_none steps
-
-pub payload_starts : (told now : Bool) (steps after : List LinkStep) → now ≡ told → steps ≡ after
-    → told_of now (steps_bytes (steps_left steps 0 0)) ≡ told_of told (steps_bytes after)
-payload_starts told now steps after same is =
-    ap (λ (l : List LinkStep). told_of now (steps_bytes l)) (steps_anew steps ∙ is) ∙ ap (λ (t : Bool). told_of t (steps_bytes after)) same

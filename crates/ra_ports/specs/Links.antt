@@ -3,14 +3,18 @@ use Rattle.std.specs.Prelude.{◌≡◌, ℕ, ◌<◌, ◌≤◌, Bool, true, fa
 use Rattle.ra_ports.specs.declared.Failed.{Failed}
 use Rattle.ra_ports.specs.declared.link.Got.{Got}
 use Rattle.ra_ports.specs.declared.link.Got.TheVariants.{Bytes, NotYet, End}
+use Rattle.ra_ports.specs.declared.link.Framing.{Framing}
 
--- What is to come on a link: the bytes that are left, and those that come once the link is framed, both where it tells;
--- whether it has answered its end; how often it was asked, and how often nothing was there yet
+-- What is to come on a link: the bytes that are left, and those that come once the link is framed, both where it tells; how it was
+-- framed, where it was and tells; whether it has answered its end; how often it was asked, for how many bytes it was asked last, and
+-- how often nothing was there yet
 pub record Incoming : Type 0 where
   pub left : Option (List ℕ)
   pub payload : Option (List ℕ)
+  pub framed : Option Framing
   pub ended : Bool
   pub receives : ℕ
+  pub room : ℕ
   pub idles : ℕ
 
 -- these bytes were taken from the front of what is left, where that is told
@@ -46,6 +50,10 @@ has_ended before (Ok NotYet) = before
 has_ended before (Ok End) = true
 has_ended before (Err failed) = before
 
--- where the link has not ended, and nothing of its payload was read before, its payload is what comes now
+-- where the link has not ended, what comes now is what was read of its payload before, and then the payload that it told
 abbrev pub StartsPayload : Incoming → Incoming → List ℕ → Type 0
-StartsPayload old new rest = old.ended ≡ false → rest ≡ [] → new.left ≡ old.payload
+StartsPayload old new rest = old.ended ≡ false → (payload : List ℕ) → old.payload ≡ Some payload → new.left ≡ Some (rest ++ payload)
+
+-- where the link tells what was sent, it tells that it was framed behind that, and handed these bytes
+abbrev pub IsHanded : Option (List ℕ) → Incoming → List ℕ → Type 0
+IsHanded sent new rest = (before : List ℕ) → sent ≡ Some before → new.framed ≡ Some (record { sent = length before; rest = rest })

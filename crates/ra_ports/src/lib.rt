@@ -21,7 +21,7 @@ pub mod source;
 
 pub use clock::Clock;
 pub use entropy::Entropy;
-pub use link::{Got, Link, LinkFault, send_all};
+pub use link::{Framing, Got, Link, LinkFault, send_all};
 pub use link_step::LinkStep;
 pub use mem_clock::MemClock;
 pub use mem_entropy::MemEntropy;

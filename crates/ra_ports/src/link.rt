@@ -3,10 +3,10 @@ ghost use Rattle.std.specs.Prelude.{◌≡◌, ◌<◌, ◌≤◌, ℕ, List, []
 ghost use Rattle.std.specs.Io.{WritesAtMost};
 ghost use Rattle.ra_ports.specs.Causes.{HasCause, MakesProgress, Rose, next_count};
 ghost use Rattle.ra_ports.specs.declared.link.LinkFault.TheVariants.{NoMemory as OutOfMemory};
-ghost use Rattle.ra_ports.specs.Links.{Incoming, Takes, Sends, SendsFront, StartsPayload, IsPiece, got_bytes, has_ended};
+ghost use Rattle.ra_ports.specs.Links.{Incoming, Takes, Sends, SendsFront, StartsPayload, IsHanded, IsPiece, got_bytes, has_ended};
 
 use crate::Failed;
-use ra_base::NoMemory;
+use ra_base::{Message, NoMemory};
 use std::alloc::AllocError;
 
 /// What a link gave.
@@ -44,6 +44,15 @@ impl From<AllocError> for LinkFault {
     }
 }
 
+/// How a link went over to frames.
+#[derive(Debug, Drop)]
+pub struct Framing {
+    /// How many bytes were sent before.
+    pub sent: usize,
+    /// The front of the framed stream that was read before.
+    pub rest: Message,
+}
+
 /// A connection that carries bytes both ways.
 pub trait Link {
     // What is to come. Its counters of 64 bits stay at their last value.
@@ -68,7 +77,9 @@ pub trait Link {
         ensures idle { result ≡ Ok Got.NotYet → Rose (incoming self.old).idles (incoming self.new).idles }
         ensures idles { (incoming self.old).idles ≤ (incoming self.new).idles }
         ensures counted { (incoming self.new).receives ≡ next_count (incoming self.old).receives }
+        ensures room { (incoming self.new).room ≡ length into.old }
         ensures payload { (incoming self.new).payload ≡ (incoming self.old).payload }
+        ensures framed { (incoming self.new).framed ≡ (incoming self.old).framed }
         ensures keeps { sent self.new ≡ sent self.old }
         ensures cause { HasCause (faults self.old) (faults self.new) result };
 
@@ -82,12 +93,15 @@ pub trait Link {
         ensures keeps { incoming self.new ≡ incoming self.old }
         ensures cause { HasCause (faults self.old) (faults self.new) result };
 
-    /// From here on the bytes are those of a framed stream's payload, and `rest` is the front of that stream that was read already.
-    /// What was sent stays. It answers `Failed` only where the count of faults rose.
+    /// From here on the bytes are those of a framed stream's payload, and `rest` is the front of that stream that was read already: a
+    /// link that tells gives it first. What was sent stays. It answers `Failed` only where the count of faults rose.
     fn go_framed(&mut self, rest: &[u8]) -> Result<(), LinkFault>
         ensures payload { OnOk result (StartsPayload (incoming self.old) (incoming self.new) rest.now) }
+        ensures handed { OnOk result (IsHanded (sent self.old) (incoming self.new) rest.now) }
+        ensures unframed { OnErr result ((incoming self.new).framed ≡ (incoming self.old).framed) }
         ensures ended { (incoming self.new).ended ≡ (incoming self.old).ended }
         ensures receives { (incoming self.new).receives ≡ (incoming self.old).receives }
+        ensures room { (incoming self.new).room ≡ (incoming self.old).room }
         ensures idles { (incoming self.old).idles ≤ (incoming self.new).idles }
         ensures keeps { sent self.new ≡ sent self.old }
         ensures later { faults self.old ≤ faults self.new }

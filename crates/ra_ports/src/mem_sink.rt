@@ -1,5 +1,5 @@
 //! A sink in memory, for tests and for runs that must be the same each time.
-ghost use Rattle.std.specs.Prelude.{◌≡◌, ℕ, List, [], Some};
+ghost use Rattle.std.specs.Prelude.{◌≡◌, ℕ, List, [], Some, IfOk, length};
 ghost use Rattle.std.specs.Io.{WritesAtMost};
 ghost use Rattle.std.specs.Io.KnownBytes.{WriteAppends};
 ghost use Rattle.ra_ports.specs.Causes.{HasCause, MakesProgress};
@@ -66,7 +66,7 @@ impl MemSink {
 }
 
 impl Sink for MemSink {
-    ghost use Rattle.ra_ports.specs.Memory.{FailsAsListed};
+    ghost use Rattle.ra_ports.specs.Memory.{WritesAsListed};
 
     ghost taken = { λ s. Some s.taken };
 
@@ -77,7 +77,8 @@ impl Sink for MemSink {
         ensures progress { MakesProgress result piece.now }
         ensures bytes { WriteAppends (Some self.old.taken) (Some self.new.taken) result piece.now }
         ensures cause { HasCause self.old.faults self.new.faults result }
-        ensures listed { FailsAsListed self.old self.new result }
+        ensures whole { IfOk result (λ n. n ≡ length piece.now) }
+        ensures listed { WritesAsListed self.old self.new piece.now result }
     {
         self.calls = self.calls.saturating_add(1);
         if self.failing.contains(&self.calls) {

@@ -1,9 +1,9 @@
 //! A source in memory, for tests and for runs that must be the same each time.
-ghost use Rattle.std.specs.Prelude.{◌≡◌, ◌↔◌, ◌+◌, ◌-◌, ◌^◌, ◌<◌, ◌≤◌, ℕ, length, All, Some, Contains, IsErr, min, take};
+ghost use Rattle.std.specs.Prelude.{◌≡◌, ◌↔◌, ◌<◌, ℕ, length, All, Some, IsErr, IfOk, min, take};
 ghost use Rattle.std.specs.Io.{ReadsAtMost};
 ghost use Rattle.std.specs.Io.KnownBytes.{ReadConsumes};
-ghost use Rattle.std.specs.List.{flat_map};
-ghost use Rattle.ra_ports.specs.Causes.{HasCause};
+ghost use Rattle.ra_ports.specs.Causes.{HasCause, IsListed};
+ghost use Rattle.ra_ports.specs.Memory.{bytes_of, next_read, after_read};
 
 use crate::Failed;
 use crate::source::Source;
@@ -33,12 +33,12 @@ pub struct MemSource {
 }
 
 impl Model for MemSource {
-    ghost use Rattle.ra_ports.specs.Memory.{SourceScript, bytes_left, IsPlace};
+    ghost use Rattle.ra_ports.specs.Memory.{SourceScript, pieces_left, IsPlace};
 
     ghost Value = { SourceScript };
 
     ghost view = { λ s. record {
-      left = bytes_left s.pieces.items s.at s.from;
+      pieces = pieces_left s.pieces.items s.at s.from;
       calls = s.calls;
       failing = s.failing.items;
       faults = s.faults;
@@ -51,7 +51,7 @@ impl MemSource {
     /// A source of these pieces, of which none is empty. The calls of `read` with the numbers in `failing`, from 1, fail.
     pub fn new(pieces: Vec<Message>, failing: Vec<u64>) -> MemSource
         requires { All (λ piece. 0 < length piece) pieces.items }
-        ensures { result ≡ record { left = flat_map (λ piece. piece) pieces.items; calls = 0; failing = failing.items; faults = 0 } }
+        ensures { result ≡ record { pieces = pieces.items; calls = 0; failing = failing.items; faults = 0 } }
     {
         MemSource {
             pieces,
@@ -65,17 +65,17 @@ impl MemSource {
 }
 
 impl Source for MemSource {
-    ghost left = { λ s. Some s.left };
+    ghost left = { λ s. Some (bytes_of s.pieces) };
 
     ghost faults = { λ s. s.faults };
 
     fn read(&mut self, into: &mut [u8]) -> Result<usize, Failed>
         ensures bound { ReadsAtMost result into.new }
-        ensures bytes { ReadConsumes (Some self.old.left) (Some self.new.left) result into.new }
+        ensures bytes { ReadConsumes (Some (bytes_of self.old.pieces)) (Some (bytes_of self.new.pieces)) result into.new }
         ensures cause { HasCause self.old.faults self.new.faults result }
-        ensures fails { IsErr result ↔ Contains self.old.failing (min (self.old.calls + 1) (2 ^ 64 - 1)) }
-        ensures script { self.new.failing ≡ self.old.failing }
-        ensures counted { self.new.calls ≡ min (self.old.calls + 1) (2 ^ 64 - 1) }
+        ensures fails { IsErr result ↔ IsListed self.old.failing self.old.calls }
+        ensures gives { IfOk result (λ n. n ≡ (next_read self.old.pieces (length into.new)).0) }
+        ensures state { self.new ≡ after_read self.old (length into.new) result }
     {
         self.calls = self.calls.saturating_add(1);
         if self.failing.contains(&self.calls) {
