@@ -1,7 +1,7 @@
 //! The running reader: it takes what comes on a link in pieces, and gives its items one after another.
-ghost use Rattle.std.specs.Prelude.{◌≡◌, ◌≢◌, ℕ, true, false, List, [], Some, None, Ok, Err, IfOk, IfErr, OnOk, OnErr, MatchOption, MatchBool, ⊤};
+ghost use Rattle.std.specs.Prelude.{◌≡◌, ◌≢◌, ◌≤◌, ℕ, length, drop, true, false, List, [], Some, None, Ok, Err, IfOk, IfErr, OnOk, OnErr, MatchOption, MatchBool, ⊤};
 ghost use Rattle.ra_model.specs.FirstFrame.{first_frame};
-ghost use Rattle.ra_frame.specs.Fronts.{IsPartial, IsTooLong};
+ghost use Rattle.ra_frame.specs.Fronts.{IsPartial, IsTooLong, IsAhead, states_above};
 ghost use Rattle.ra_upgrade.specs.declared.answer_head.AnswerFault.{AnswerFault};
 ghost use Rattle.ra_upgrade.specs.declared.answer_head.AnswerFault.TheVariants as answer_faults;
 ghost use Rattle.ra_upgrade.specs.declared.request_head.HeadFault.{HeadFault};
@@ -75,6 +75,28 @@ impl ItemReader {
         ensures { self.new ≡ record { behind_head = self.old.behind_head; unread = [] } }
     {
         self.unread.clear();
+    }
+
+    /// The type of the next frame, and how many bytes it has, where a whole one is there. It takes no memory.
+    pub fn ahead(&self) -> Option<(u8, usize)>
+        ensures { IsAhead self.now.unread result }
+    {
+        self.unread.ahead()
+    }
+
+    /// Whether the next header of a frame states a body longer than this limit, and within that of a frame. It takes no memory.
+    pub fn states_above(&self, limit: u32) -> bool
+        ensures { result ≡ states_above limit self.now.unread }
+    {
+        self.unread.states_above(limit)
+    }
+
+    /// The first `len` unread bytes count as read. It takes no memory.
+    pub fn skip(&mut self, len: usize)
+        requires { len ≤ length self.old.unread }
+        ensures { self.new ≡ record { behind_head = self.old.behind_head; unread = drop len self.old.unread } }
+    {
+        self.unread.skip(len);
     }
 
     /// The next item, where it is an upgrade request. `None` asks for more bytes. A fault leaves the unread bytes.

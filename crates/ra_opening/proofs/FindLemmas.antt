@@ -18,7 +18,7 @@ use Rattle.ra_opening.specs.declared.ends.OpeningEnd.TheVariants as ends
 use Rattle.ra_opening.specs.Openings.{Grounds, Opened, new_opened, frame_came, items_done, opened}
 use Rattle.ra_opening.specs.Openings.Stage.{Shaking, Over}
 use Rattle.ra_opening.specs.Stands.{Tells, IsShaking, IsWaiting}
-use Rattle.ra_opening.specs.Comes.{IsOver, RanShort, HasControl, Finds, found_of}
+use Rattle.ra_opening.specs.Comes.{IsOver, RanShort, HasControl, PassesOver, Finds, found_of}
 use Rattle.ra_items.specs.Reads.{ReadsFrame}
 use Rattle.ra_opening.proofs.RunLemmas.{opened_is, opened_by, item_more, still_over, read_part}
 
@@ -133,13 +133,6 @@ frame_shortens old new f first = omega (arith, found_shorter old f new first, fr
 
 not_eq : (a b : ℕ) → (a ≡ b → ⊥) → eqb a b ≡ false
 not_eq a b ne = search (rules, ne)
-
--- what stays as frames are passed over
-pub record PassesOver (old now : Reader) : Type 0 where
-  pub behind : now.behind_head ≡ true
-  pub fewer : length now.unread ≤ length old.unread
-  pub keeps : (g : Grounds) (head : Head Upgrade HeadFault) (text before : List ℕ) (next : ℕ → List ℕ) (shake : ServerState) (out : List ℕ)
-      → IsShaking g head text before next old shake out → IsShaking g head text before next now shake out
 
 pub passes_on : (old mid new : Reader) (f : Frame) → PassesOver old mid → new.behind_head ≡ true → first_frame mid.unread ≡ Some (f, new.unread)
     → ((head : Head Upgrade HeadFault) (text : List ℕ) → ReadsOne head text mid new f) → (f.kind ≡ 2 → ⊥) → (f.kind ≡ 5 → ⊥) → PassesOver old new

@@ -1,5 +1,6 @@
 pub mod RunLemmas
 pub mod FindLemmas
+pub mod BudgetLemmas
 pub mod ShakeLemmas
 pub mod BeginLemmas
 pub mod PieceLemmas

@@ -1,5 +1,5 @@
 -- What a text comes to, for an opening in memory that has handled it.
-use Rattle.std.specs.Prelude.{◌≡◌, ◌≢◌, ℕ, ◌≤◌, Bool, false, List, ◌∷◌, ◌++◌, [], drop, Option, Some, Ok, ⊤}
+use Rattle.std.specs.Prelude.{◌≡◌, ◌≢◌, ℕ, ◌≤◌, Bool, true, false, length, List, ◌∷◌, ◌++◌, [], drop, Option, Some, Ok, ⊤}
 use Rattle.ra_base.specs.declared.handshake.Reason.{Reason}
 use Rattle.ra_base.specs.declared.handshake.Request.{Request}
 use Rattle.ra_base.specs.declared.kind.Kind.TheVariants.{Tunnel}
@@ -31,7 +31,7 @@ use Rattle.ra_opening.specs.Openings.{Grounds, Opened, new_opened, items_done, o
 use Rattle.ra_opening.specs.Openings.Stage.{Shaking, Asked, Over}
 use Rattle.ra_opening.specs.Verdicts.{refusal_bytes}
 use Rattle.ra_opening.specs.declared.phase.Phase.{Phase}
-use Rattle.ra_opening.specs.Stands.{OpeningState, Tells, IsWaiting, Stands, NeedsFraming}
+use Rattle.ra_opening.specs.Stands.{OpeningState, Tells, IsShaking, IsWaiting, Stands, NeedsFraming}
 
 -- the client has asked, and this is what stands behind its message
 pub record IsAsked (grounds : Grounds) (head : Head Upgrade HeadFault) (text before : List ℕ) (next : ℕ → List ℕ) (request : Request) (rest out : List ℕ) : Type 0 where
@@ -82,6 +82,13 @@ pub record HasControl (grounds : Grounds) (head : Head Upgrade HeadFault) (text 
   pub body_is : frame.body ≡ body
   pub stage : (items_done grounds done new_opened).stage ≡ Shaking shake
   pub tells : Tells grounds before next out (items_done grounds done new_opened)
+
+-- what stays as frames are passed over
+pub record PassesOver (old now : Reader) : Type 0 where
+  pub behind : now.behind_head ≡ true
+  pub fewer : length now.unread ≤ length old.unread
+  pub keeps : (g : Grounds) (head : Head Upgrade HeadFault) (text before : List ℕ) (next : ℕ → List ℕ) (shake : ServerState) (out : List ℕ)
+      → IsShaking g head text before next old shake out → IsShaking g head text before next now shake out
 
 -- what the frames of a handshake come to, up to the first that counts
 abbrev pub Finds : Found → Grounds → Head Upgrade HeadFault → List ℕ → List ℕ → (ℕ → List ℕ) → Reader → ServerState → List ℕ → Type 0

@@ -1,8 +1,9 @@
 //! The head of an opening, and the handshake that it begins.
-ghost use Rattle.std.specs.Prelude.{◌≡◌, ◌++◌, ℕ, Bool, List, false, IfOk, OnOk, OnErr, IsOkAnd, IsUtf8, option_map};
+ghost use Rattle.std.specs.Prelude.{◌≡◌, ◌<◌, ◌++◌, length, ℕ, Bool, List, false, IfOk, OnOk, OnErr, IsOkAnd, IsUtf8, option_map};
 ghost use Rattle.ra_items.specs.Heads.{Head, IsRequestOf};
 ghost use Rattle.ra_shake.specs.Made.{made_text};
 ghost use Rattle.ra_shake.specs.declared.server.Stage.TheVariants as stages;
+ghost use Rattle.ra_upgrade.specs.Ends.{max_head};
 ghost use Rattle.ra_upgrade.specs.declared.request_head.HeadFault.{HeadFault};
 ghost use Rattle.ra_upgrade.specs.declared.request_head.Upgrade.{Upgrade};
 ghost use Rattle.ra_opening.specs.Openings.{grounds_of};
@@ -158,6 +159,7 @@ pub(crate) fn open_head<E: Entropy>(
     ensures known { IsKnownIn result reader.old.unread }
     ensures framing { AsksFraming reader.old.unread → IsToBeFramed result out.old.items out.new.items }
     ensures begun { IsBegunIn result reader.new }
+    ensures bounded { result ≡ Headed.Waits → length reader.new.unread < max_head }
 {
     match reader.next_request(alloc) {
         Ok(None) => Headed::Waits,

@@ -1,5 +1,5 @@
 //! The running opening: it takes what comes on a link in pieces, and writes what is answered.
-ghost use Rattle.std.specs.Prelude.{◌≡◌, ◌≢◌, ◌↔◌, ◌-◌, ◌++◌, ℕ, Bool, List, true, false, length, take, IsTrue, OnOk, OnErr};
+ghost use Rattle.std.specs.Prelude.{◌≡◌, ◌≢◌, ◌↔◌, ◌-◌, ◌++◌, ℕ, Bool, List, [], true, false, length, take, IsTrue, OnOk, OnErr};
 ghost use Rattle.ra_items.specs.Heads.{Head, IsRequestOf};
 ghost use Rattle.ra_shake.specs.declared.server.Stage.TheVariants as stages;
 ghost use Rattle.ra_shake.specs.declared.settings.ShakeSettings.{ShakeSettings};
@@ -7,6 +7,8 @@ ghost use Rattle.ra_upgrade.specs.declared.request_head.HeadFault.{HeadFault};
 ghost use Rattle.ra_upgrade.specs.declared.request_head.Upgrade.{Upgrade};
 ghost use Rattle.ra_opening.specs.Openings.{Grounds, grounds_of};
 ghost use Rattle.ra_opening.specs.Stands.{OpeningState, Stands, IsShaking, IsUnopened, IsFed, IsOpen, IsFinished, HasNoHead, PhaseFits, IsInShake, NeedsFraming, new_opening, framed_phase};
+ghost use Rattle.ra_opening.specs.Budget.{WaitsBounded};
+ghost use Rattle.ra_opening.specs.declared.ends.OpeningEnd.{OpeningEnd};
 ghost use Rattle.ra_opening.specs.Comes.{Comes, IsKnown, AsksFraming, WaitsForFraming, AsksServed};
 
 use crate::ends::{OpeningEnd, OpeningStep};
@@ -62,6 +64,7 @@ fn go_on<G: Signer>(
         → Comes result.step grounds head text before next (record { reader = reader.new; phase = result.phase })
         out.new.items }
     ensures served { AsksServed result.step }
+    ensures bounded { WaitsBounded result.phase reader.new }
     ensures fits { PhaseFits result.phase reader.new }
     ensures once { NeedsFraming result.phase → ⊥ }
     ensures open { result.step ≡ OpeningStep.Waits → result.phase ≢ Phase.Over }
@@ -93,6 +96,7 @@ fn begin<E: Entropy, G: Signer>(
     ensures framing { AsksFraming reader.old.unread
         → WaitsForFraming result.step result.phase out.old.items out.new.items }
     ensures served { AsksServed result.step }
+    ensures bounded { WaitsBounded result.phase reader.new }
     ensures fits { PhaseFits result.phase reader.new }
     ensures open { result.step ≡ OpeningStep.Waits → result.phase ≢ Phase.Over }
 {
@@ -133,6 +137,7 @@ fn take_piece<E: Entropy, G: Signer>(
     ensures once { IsInShake phase → NeedsFraming result.phase → ⊥ }
     ensures draws { (phase ≡ Phase.Heading → ⊥) → E.draw entropy.new ≡ E.draw entropy.old }
     ensures served { AsksServed result.step }
+    ensures bounded { WaitsBounded result.phase reader.new }
     ensures fits { PhaseFits result.phase reader.new }
     ensures open { result.step ≡ OpeningStep.Waits → result.phase ≢ Phase.Over }
 {
@@ -192,6 +197,43 @@ impl Opening {
         }
     }
 
+    /// Takes the next piece, and keeps what is unread of it.
+    fn take<E: Entropy, G: Signer>(
+        &mut self,
+        alloc: Global,
+        entropy: &mut E,
+        signer: &G,
+        settings: &ShakeSettings,
+        piece: &[u8],
+        out: &mut Vec<u8>,
+    ) -> OpeningStep
+        requires { IsOpen self.old }
+        ensures made { (draw : ℕ → List ℕ) (head : Head Upgrade HeadFault) (text before : List ℕ)
+            → IsRequestOf (text ++ piece.now) head
+            → let grounds = grounds_of settings.now (G.signature_of signer.now) (G.counts signer.now) draw in
+            Stands grounds head text before (E.draw entropy.old) self.old out.old.items
+            → Comes result grounds head (text ++ piece.now) before (E.draw entropy.new) self.new out.new.items }
+        ensures known { HasNoHead self.old → IsKnown result (self.old.reader.unread ++ piece.now) }
+        ensures framing { HasNoHead self.old → AsksFraming (self.old.reader.unread ++ piece.now)
+            → WaitsForFraming result self.new.phase out.old.items out.new.items }
+        ensures once { IsInShake self.old.phase → NeedsFraming self.new.phase → ⊥ }
+        ensures draws { (HasNoHead self.old → ⊥) → E.draw entropy.new ≡ E.draw entropy.old }
+        ensures served { AsksServed result }
+        ensures bounded { WaitsBounded self.new.phase self.new.reader }
+        ensures open { result ≡ OpeningStep.Waits → IsOpen self.new }
+    {
+        let phase = mem::replace(&mut self.phase, Phase::Over);
+        match self.reader.feed(piece) {
+            Err(_) => ended(OpeningEnd::NoMemory),
+            Ok(()) => {
+                let reader = &mut self.reader;
+                let taken = take_piece(alloc, reader, phase, entropy, signer, settings, out);
+                self.phase = taken.phase;
+                taken.step
+            }
+        }
+    }
+
     /// Takes the next piece, and writes what is answered to all that is whole then. The settings and the signer are to be
     /// the same for all pieces of a link. Where the head asks for WebSocket messages, nothing behind it is looked at before
     /// `set_framed`.
@@ -216,16 +258,17 @@ impl Opening {
         ensures once { IsInShake self.old.phase → NeedsFraming self.new.phase → ⊥ }
         ensures draws { (HasNoHead self.old → ⊥) → E.draw entropy.new ≡ E.draw entropy.old }
         ensures served { AsksServed result }
+        // at most a head, or the header and the body of a text, wait for what is missing of them
+        ensures bounded { WaitsBounded self.new.phase self.new.reader }
+        ensures given_up { (end : OpeningEnd) → result ≡ OpeningStep.End end → self.new.reader.unread ≡ [] }
         ensures open { result ≡ OpeningStep.Waits → IsOpen self.new }
     {
-        let phase = mem::replace(&mut self.phase, Phase::Over);
-        match self.reader.feed(piece) {
-            Err(_) => ended(OpeningEnd::NoMemory),
-            Ok(()) => {
-                let reader = &mut self.reader;
-                let taken = take_piece(alloc, reader, phase, entropy, signer, settings, out);
-                self.phase = taken.phase;
-                taken.step
+        match self.take(alloc, entropy, signer, settings, piece, out) {
+            OpeningStep::Waits => OpeningStep::Waits,
+            OpeningStep::Ask { request } => OpeningStep::Ask { request },
+            OpeningStep::End { end } => {
+                self.reader.clear();
+                OpeningStep::End { end }
             }
         }
     }

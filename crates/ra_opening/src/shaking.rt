@@ -1,6 +1,10 @@
 //! The frames of a handshake.
-ghost use Rattle.std.specs.Prelude.{◌≡◌, ◌≢◌, ◌<◌, ℕ, List, true, length};
+ghost use Rattle.std.specs.Prelude.{◌≡◌, ◌≢◌, ◌<◌, ◌⊎◌, ℕ, List, Some, true, false, length};
+ghost use Rattle.ra_model.specs.declared.frame.Frame.{Frame};
+ghost use Rattle.ra_model.specs.FirstFrame.{first_frame};
 ghost use Rattle.ra_items.specs.Heads.{Head};
+ghost use Rattle.ra_frame.specs.Fronts.{states_above};
+ghost use Rattle.ra_shake.specs.Limits.{text_limit};
 ghost use Rattle.ra_shake.specs.declared.server.Stage.TheVariants as stages;
 ghost use Rattle.ra_shake.specs.declared.settings.ShakeSettings.{ShakeSettings};
 ghost use Rattle.ra_shake.specs.States.{ServerState};
@@ -8,7 +12,8 @@ ghost use Rattle.ra_upgrade.specs.declared.request_head.HeadFault.{HeadFault};
 ghost use Rattle.ra_upgrade.specs.declared.request_head.Upgrade.{Upgrade};
 ghost use Rattle.ra_opening.specs.Openings.{Grounds, grounds_of};
 ghost use Rattle.ra_opening.specs.Stands.{IsShaking};
-ghost use Rattle.ra_opening.specs.Comes.{Finds, Answers, Refuses, Shakes, AsksServed, IsControl, found_of};
+ghost use Rattle.ra_opening.specs.Budget.{FoundWithin, WaitsWithin};
+ghost use Rattle.ra_opening.specs.Comes.{PassesOver, Finds, Answers, Refuses, Shakes, AsksServed, IsControl, found_of};
 
 use crate::ends::{OpeningEnd, OpeningStep};
 use crate::writing::{write_control, write_refusal};
@@ -16,8 +21,13 @@ use ra_base::{Message, Reason, Request};
 use ra_frame::FrameFault;
 use ra_items::ItemReader;
 use ra_ports::Signer;
-use ra_shake::{ServerShake, ShakeStep};
+use ra_shake::{ServerShake, ShakeStep, TEXT_LIMIT};
 use std::alloc::Global;
+
+/// The types of the frames that count in a handshake.
+const CONTROL: u8 = 2;
+
+const DISCONNECT: u8 = 5;
 
 /// What the frames of a handshake come to, up to the first that counts.
 #[derive(Drop)]
@@ -52,27 +62,51 @@ fn found_of(fault: FrameFault) -> Found
     }
 }
 
+/// Passes over the frames that say nothing to a handshake, without a copy of their bodies, up to one that counts, or that is not whole.
+/// Answers false at a header that states more than a text of a handshake has.
+fn pass_over(reader: &mut ItemReader) -> bool
+    requires { reader.old.behind_head ≡ true }
+    ensures passed { PassesOver reader.old reader.new }
+    ensures within { result ≡ true → states_above text_limit reader.new.unread ≡ false }
+    ensures counts { result ≡ true → (f : Frame) (rest : List ℕ) → first_frame reader.new.unread ≡ Some (f, rest)
+        → (f.kind ≡ 2) ⊎ (f.kind ≡ 5) }
+{
+    'frames: loop {
+        if reader.states_above(TEXT_LIMIT) {
+            return false;
+        }
+        let Some((kind, size)) = reader.ahead() else {
+            return true;
+        };
+        if kind == CONTROL || kind == DISCONNECT {
+            return true;
+        }
+        reader.skip(size);
+    }
+}
+
 /// The first frame that counts in a handshake.
 fn find(alloc: Global, reader: &mut ItemReader) -> Found
     requires { reader.old.behind_head ≡ true }
     ensures behind { reader.new.behind_head ≡ true }
     ensures shorter { IsControl result → length reader.new.unread < length reader.old.unread }
+    ensures bounded { FoundWithin result reader.new }
     ensures found { (grounds : Grounds) (head : Head Upgrade HeadFault) (text before : List ℕ) (next : ℕ → List ℕ)
         (shake : ServerState) (out : List ℕ)
         → IsShaking grounds head text before next reader.old shake out
         → Finds result grounds head text before next reader.new shake out }
 {
-    'frames: loop {
-        match reader.next_frame(alloc) {
-            Err(fault) => return found_of(fault),
-            Ok(None) => return Found::Waits,
-            Ok(Some(frame)) => {
-                if frame.kind == 2 {
-                    return Found::Control { body: frame.body };
-                }
-                if frame.kind == 5 {
-                    return Found::Left;
-                }
+    if !pass_over(reader) {
+        return Found::NoMemory;
+    }
+    match reader.next_frame(alloc) {
+        Err(fault) => found_of(fault),
+        Ok(None) => Found::Waits,
+        Ok(Some(frame)) => {
+            if frame.kind == CONTROL {
+                Found::Control { body: frame.body }
+            } else {
+                Found::Left
             }
         }
     }
@@ -127,6 +161,7 @@ pub(crate) fn shake_on<G: Signer>(
         IsShaking grounds head text before next reader.old shake.old out.old.items
         → Shakes result grounds head text before next reader.new shake.new out.new.items }
     ensures served { AsksServed result }
+    ensures bounded { WaitsWithin result reader.new }
     ensures open { result ≡ OpeningStep.Waits → shake.new.stage ≢ stages.Over }
     ensures behind { reader.new.behind_head ≡ true }
 {

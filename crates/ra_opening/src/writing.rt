@@ -6,12 +6,9 @@ ghost use Rattle.ra_model.specs.FrameKinds.{control_frame, pause_frame};
 ghost use Rattle.ra_opening.specs.Verdicts.{refusal_bytes, acceptance_bytes};
 
 use ra_base::{Kind, NoMemory, Reason};
-use ra_frame::append_written;
+use ra_frame::{BODY_LIMIT, append_written};
 use ra_shake::{accept_text, refuse_text};
 use std::alloc::Global;
-
-/// The most bytes of a body.
-const BODY_LIMIT: usize = 268_435_456;
 
 /// Adds the bytes, or nothing where there is no memory.
 pub(crate) fn write(out: &mut Vec<u8>, bytes: &[u8]) -> Result<(), NoMemory>

@@ -6,3 +6,4 @@ pub mod States
 pub mod Server
 pub mod Client
 pub mod Whole
+pub mod Limits

@@ -13,6 +13,7 @@
 
 pub mod client;
 pub mod laws;
+pub mod limits;
 mod reading;
 pub mod server;
 pub mod settings;
@@ -21,6 +22,7 @@ pub mod tokens;
 mod verdict;
 
 pub use client::{ClientShake, ClientStep};
+pub use limits::TEXT_LIMIT;
 pub use ra_base::{Reason, Request};
 pub use server::{ServerShake, ShakeStep, Stage};
 pub use settings::ShakeSettings;

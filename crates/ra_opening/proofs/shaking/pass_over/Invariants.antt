@@ -1,6 +1,6 @@
 use Rattle.std.proofs.Common.{length}
-use Rattle.ra_opening.proofs.FindLemmas.{PassesOver}
-use Rattle.ra_opening.proofs.shaking.find.Given as goal
+use Rattle.ra_opening.specs.Comes.{PassesOver}
+use Rattle.ra_opening.proofs.shaking.pass_over.Given as goal
 
 abbrev pub invariant-frames : goal.invariant-frames
 invariant-frames l = PassesOver l.fn.reader l.reader

@@ -1,7 +1,7 @@
 use Rattle.std.proofs.Common.{◌++◌}
 use Rattle.ra_opening.specs.Openings.{Grounds, grounds_of}
 use Rattle.ra_opening.proofs.PieceLemmas.{stands_short, fed_by}
-use Rattle.ra_opening.proofs.opening.Opening.piece.Goals as goal
+use Rattle.ra_opening.proofs.opening.Opening.take.Goals as goal
 
 pub returns-in-Err-clause-made : goal.returns-in-Err-clause-made
 returns-in-Err-clause-made g c = λ draw head text before is x.
