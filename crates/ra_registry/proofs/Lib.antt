@@ -8,6 +8,7 @@ pub mod Epochs
 pub mod Entered
 pub mod StartRows
 pub mod Accepted
+pub mod KeptLemmas
 pub mod Expiries
 pub mod CountLemmas
 pub mod PresentRows

@@ -1,5 +1,6 @@
 -- Keys that are the same one.
-use Rattle.std.proofs.Common.{◌≡◌, true, refl}
+use Rattle.std.proofs.Common.{◌≡◌, ◌≢◌, true≢false, Bool, true, false, refl, sym, ap, ◌∙◌}
+use Rattle.std.specs.Prelude.{MatchBool}
 use Rattle.std.specs.Ordering.{is_eq}
 use Rattle.std.specs.Cmp.{IsEquivalence}
 use Rattle.std.proofs.lemmas.Cmp.{eq_by_cmp_equiv}
@@ -26,3 +27,8 @@ same_key_itself a = same_keys_laws.refl a
 
 pub same_key_other_way : (a b : Key) → same_key a b ≡ same_key b a
 same_key_other_way a b = same_keys_laws.symm a b
+
+-- the comparison of keys decides their equality
+pub key_decides : (a b : Key) (r : Bool) → r ≡ same_key a b → MatchBool r (a ≡ b) (a ≢ b)
+key_decides a b true is = same_key_is a b (sym is)
+key_decides a b false is = λ e. absurd (true≢false (sym (same_key_itself b) ∙ (ap (λ (k : Key). same_key k b) (sym e) ∙ sym is)))

@@ -39,7 +39,7 @@ impl Registry {
     ghost use Rattle.ra_registry.specs.RegistryStates.{with_entry};
     ghost use Rattle.ra_registry.specs.Seats.{IsUnspent};
     ghost use Rattle.ra_registry.specs.Legal.{IsLegal};
-    ghost use Rattle.ra_registry.specs.KeptRecords.{IsKept, Keeps, HasKeepCause};
+    ghost use Rattle.ra_registry.specs.KeptRecords.{IsKept, Keeps, Calls, HasKeepCause};
 
     /// Whether the session of this kind and token has a row.
     fn has_row(&self, kind: Kind, token: &Token) -> bool
@@ -127,6 +127,7 @@ impl Registry {
         ensures answered { spec.Admits self.old ask.now at result self.new }
         ensures seat { IfOk result (λ seat. IsUnspent seat self.new.history) }
         ensures told { Keeps result at (R.told keeper.old) (R.told keeper.new) }
+        ensures called { Calls result (R.calls keeper.old) (R.calls keeper.new) }
         ensures cause { HasKeepCause (R.faults keeper.old) (R.faults keeper.new) result }
         ensures was_legal { IsLegal self.old }
         ensures legal { IsLegal self.new }
@@ -180,6 +181,7 @@ impl Registry {
         ensures answered { spec.Admits self.old ask.now at result self.new }
         ensures seat { IfOk result (λ seat. IsUnspent seat self.new.history) }
         ensures told { Keeps result at (R.told keeper.old) (R.told keeper.new) }
+        ensures called { Calls result (R.calls keeper.old) (R.calls keeper.new) }
         ensures cause { HasKeepCause (R.faults keeper.old) (R.faults keeper.new) result }
         ensures was_legal { IsLegal self.old }
         ensures legal { IsLegal self.new }
@@ -235,6 +237,8 @@ impl Registry {
         // the keeper gets the record of an acceptance, and of no other answer
         ensures told { Keeps result now (R.told keeper.old) (R.told keeper.new) }
         ensures kept { IsKept (R.told keeper.old) self.old → IsKept (R.told keeper.new) self.new }
+        ensures called { Calls result (R.calls keeper.old) (R.calls keeper.new) }
+        // KeepFault is answered where the keeper failed, and nowhere else
         ensures cause { HasKeepCause (R.faults keeper.old) (R.faults keeper.new) result }
         ensures was_legal { IsLegal self.old }
         ensures legal { IsLegal self.new }

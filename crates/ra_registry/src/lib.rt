@@ -11,10 +11,11 @@ pub mod past;
 pub mod registry;
 pub mod row;
 mod rows;
+mod same;
 mod start;
 
 pub use fault::AdmitFault;
 pub use past::{Did, Past};
 pub use ra_base::{Cause, Seat};
-pub use registry::Registry;
+pub use registry::{Registry, RegistryParts};
 pub use row::{Row, RowState};

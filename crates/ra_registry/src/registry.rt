@@ -27,6 +27,15 @@ pub struct Registry {
     pub(crate) seats: usize,
 }
 
+/// What a registry holds.
+#[derive(Drop)]
+pub struct RegistryParts {
+    pub long_grace: u64,
+    pub short_grace: u64,
+    pub start: Vec<Record>,
+    pub history: Vec<Past>,
+}
+
 impl Model for Registry {
     ghost use Rattle.std.specs.Vec.{vec_capacity};
     ghost use Rattle.ra_registry.specs.RegistryStates.{RegistryState};
@@ -86,6 +95,33 @@ impl Registry {
         ensures legal { IsLegal self.now }
     {
         self.history.as_slice()
+    }
+
+    /// Ends the registry, and gives what it held: its grace times, its start records and its history.
+    pub fn into_parts(self) -> RegistryParts
+        ensures parts { self ≡ record {
+          long_grace = result.long_grace;
+          short_grace = result.short_grace;
+          start = result.start.items;
+          history = result.history.items;
+        } }
+        ensures legal { IsLegal self }
+    {
+        let Registry {
+            graces,
+            start,
+            rows: _,
+            open_keys: _,
+            history,
+            shortened_to: _,
+            seats: _,
+        } = self;
+        RegistryParts {
+            long_grace: graces.long,
+            short_grace: graces.short,
+            start,
+            history,
+        }
     }
 
     /// The row of a session.
