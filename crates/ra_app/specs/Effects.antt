@@ -6,6 +6,7 @@ use Rattle.ra_values.specs.View.{tree}
 use Rattle.ra_ipc.specs.Messages.{Reply}
 use Rattle.ra_ipc.specs.Packets.{reply_body}
 use Rattle.ra_ipc.specs.View.{reply}
+use Rattle.ra_ipc.specs.declared.packet.Answer.{Answer}
 use Rattle.ra_app.specs.declared.app.Done.{Done}
 use Rattle.ra_app.specs.declared.app.Shout.{Shout}
 
@@ -33,6 +34,10 @@ abbrev pub ShoutFits : Option Shout → Type 0
 ShoutFits None = Unit {0}
 ShoutFits (Some shout) = Fits levels (text shout.event) × Fits levels (tree shout.body)
 
+-- the answer can be written
+abbrev pub AnswerFits : Answer → Type 0
+AnswerFits answer = Fits levels (reply_body (reply answer))
+
 -- all of it can be written
 abbrev pub DoneFits : Done → Type 0
-DoneFits done = Fits levels (reply_body (reply done.answer)) × ShoutFits done.fire
+DoneFits done = AnswerFits done.answer × ShoutFits done.fire

@@ -5,7 +5,7 @@ ghost use Rattle.ra_values.specs.Spelling.{Fits, levels};
 ghost use Rattle.ra_values.specs.View.{tree};
 ghost use Rattle.ra_ipc.specs.Messages.{error};
 ghost use Rattle.ra_ipc.specs.View.{reply};
-ghost use Rattle.ra_app.specs.Effects.{effect, DoneFits};
+ghost use Rattle.ra_app.specs.Effects.{effect, AnswerFits, DoneFits};
 
 use ra_ipc::Answer;
 use ra_values::{NoMemory, Text, Value};
@@ -50,7 +50,8 @@ pub trait App {
 
 /// The answer that stands in for one that is too large to be sent.
 pub fn too_large(alloc: Global) -> Result<Answer, NoMemory>
-    ensures { IfOk result (λ answer. reply answer ≡ error (object (codes "{\"message\":\"answer too large\",\"name\":\"Error\"}"))) }
+    ensures value { IfOk result (λ answer. reply answer ≡ error (object (codes "{\"message\":\"answer too large\",\"name\":\"Error\"}"))) }
+    ensures fits { IfOk result AnswerFits }
 {
     let json = Text::of(
         alloc,

@@ -1,13 +1,13 @@
 -- Requests by their arrivals: one more behind all others, one taken out, one changed.
-use Rattle.std.proofs.Common.{◌≡◌, ℕ, ◌+◌, ◌<◌, List, [], ◌∷◌, ◌++◌, map, true, false, not, Option, Some, None, refl, sym, ap, ◌∙◌, arith, inl, inr, option_map, append_assoc, append-nil}
+use Rattle.std.proofs.Common.{◌≡◌, ℕ, ◌+◌, ◌<◌, Bool, List, [], ◌∷◌, ◌++◌, map, true, false, not, leb, Option, Some, None, refl, sym, ap, ◌∙◌, arith, inl, inr, option_map, append_assoc, append-nil}
 use Rattle.std.proofs.lemmas.Bool.{cases_Bool, cond_both, eqb-true, eqb-false, ne_eqb, eq-eqb}
 use Rattle.std.proofs.lemmas.Map.{keys-set_value}
-use Rattle.std.specs.Prelude.{◌==◌, if◌then◌else◌}
-use Rattle.std.specs.List.{AllByRecursion, filter, filter_map, find}
+use Rattle.std.specs.Prelude.{◌==◌, ◌||◌, if◌then◌else◌}
+use Rattle.std.specs.List.{AllByRecursion, filter, filter_map, find, list_any}
 use Rattle.std.specs.Map.{keys_of, lookup, set_value, remove_entry}
 use Rattle.std.specs.BTreeMap.{is_at}
 use Rattle.std.specs.Ordering.{nat_cmp}
-use Rattle.ra_ipc.specs.ChannelServers.{Active, Call, holds}
+use Rattle.ra_ipc.specs.ChannelServers.{Active, Call, waiting_call, handed_call, waiting_listen, listener, holds, is_timed_out}
 use Rattle.ra_chan_server.specs.declared.request.Request.{Request}
 use Rattle.ra_chan_server.specs.Requests.{id_in, is_here, opened, opened_call, marked, at_id, HaveOwnIds, ActiveFits}
 use Rattle.ra_chan_server.specs.View.{active_of}
@@ -304,6 +304,28 @@ shown_part all (e ∷ es) h = elim (cases_Bool (is_here (active_of e.1))) [
 
 pub all_shown : (es : List (ℕ × Request)) → Ascending (keys_of es) → shown es (here es) ≡ filter is_here (actives es)
 all_shown es a = shown_part es es (each_looked es a)
+
+-- what waited too long was not handed out
+pub any_here : (now : ℕ) (xs : List Active) → list_any (is_timed_out now) (filter is_here xs) ≡ list_any (is_timed_out now) xs
+any_here now [] = refl
+any_here now (waiting_call id channel name arg cancelled until ∷ xs) = ap (λ (b : Bool). leb until now || b) (any_here now xs)
+any_here now (handed_call id ∷ xs) = any_here now xs
+any_here now (waiting_listen id channel event until ∷ xs) = ap (λ (b : Bool). leb until now || b) (any_here now xs)
+any_here now (listener id channel event ∷ xs) = any_here now xs
+
+pub all_late : (now : ℕ) (es : List (ℕ × Request)) → Ascending (keys_of es) → list_any (is_timed_out now) (shown es (here es)) ≡ list_any (is_timed_out now) (actives es)
+all_late now es a = ap (λ (xs : List Active). list_any (is_timed_out now) xs) (all_shown es a) ∙ any_here now (actives es)
+
+pub next_late : (all : List (ℕ × Request)) (p : Active → Bool) (goal : Bool) (left : List ℕ) (k : ℕ) (ks : List ℕ) (r : Request) → left ≡ k ∷ ks → lookup (is_at (nat_cmp k)) all ≡ Some r
+    → list_any p (shown all left) ≡ goal → (p (active_of r) || list_any p (shown all ks)) ≡ goal
+next_late all p goal left k ks r is found inv = rw (is, found) at inv
+
+pub none_late : (all : List (ℕ × Request)) (p : Active → Bool) (goal : Bool) (left : List ℕ) (k : ℕ) (ks : List ℕ) → left ≡ k ∷ ks → lookup (is_at (nat_cmp k)) all ≡ None
+    → list_any p (shown all left) ≡ goal → list_any p (shown all ks) ≡ goal
+none_late all p goal left k ks is found inv = rw (is, found) at inv
+
+pub late_left : (all : List (ℕ × Request)) (p : Active → Bool) (goal : Bool) (left : List ℕ) → left ≡ [] → list_any p (shown all left) ≡ goal → false ≡ goal
+late_left all p goal left is inv = rw is at inv
 
 pub next_shown : (all : List (ℕ × Request)) (ms goal : List Active) (left : List ℕ) (k : ℕ) (ks : List ℕ) (r : Request) → left ≡ k ∷ ks → lookup (is_at (nat_cmp k)) all ≡ Some r → ms ++ shown all left ≡ goal → (ms ++ active_of r ∷ []) ++ shown all ks ≡ goal
 next_shown all ms goal left k ks r is found inv = append_assoc ms (active_of r ∷ []) (shown all ks) ∙ (rw (is, found) at inv)

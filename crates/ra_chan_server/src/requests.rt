@@ -3,7 +3,7 @@ ghost use Rattle.std.specs.Prelude.{◌≡◌, ◌<◌, ◌^◌, [], ◌++◌, �
 ghost use Rattle.std.specs.List.{AllByRecursion, filter, find, list_any};
 ghost use Rattle.std.specs.Bool.{OnTrue, OnFalse};
 ghost use Rattle.std.specs.Option.{option_and_then};
-ghost use Rattle.ra_ipc.specs.ChannelServers.{holds, is_handed, is_listener, cancel_one};
+ghost use Rattle.ra_ipc.specs.ChannelServers.{holds, is_handed, is_listener, is_timed_out, cancel_one};
 ghost use Rattle.ra_chan_server.specs.Requests.{id_in, is_here, opened, opened_call, at_id, HaveOwnIds, ActiveFits};
 ghost use Rattle.ra_chan_server.specs.View.{active_of, call_of};
 
@@ -185,6 +185,13 @@ impl Requests {
         ensures found { IfOk result (λ found. map (λ r. active_of r.now) found.items ≡ filter is_here self.now) }
     {
         table::listed(alloc, &self.by_arrival, &self.not_handed)
+    }
+
+    /// Whether one of them waited for its channel until this moment, or until an earlier one. It takes no memory.
+    pub fn has_late(&self, now: u64) -> bool
+        ensures { result ≡ list_any (is_timed_out now) self.now }
+    {
+        table::has_late(&self.by_arrival, &self.not_handed, now)
     }
 
     /// Equal requests.

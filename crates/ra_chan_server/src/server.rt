@@ -257,12 +257,11 @@ impl ChannelServer {
         }
     }
 
-    /// Whether a tick at this moment finds a call or a listen that waited too long. It is refused for want of memory alone.
-    pub fn has_late(&self, alloc: Global, now: u64) -> Result<bool, NoMemory>
-        ensures { IfOk result (λ late. late ≡ list_any (is_timed_out now) self.now.active) }
+    /// Whether a tick at this moment finds a call or a listen that waited too long. It takes no memory.
+    pub fn has_late(&self, now: u64) -> bool
+        ensures { result ≡ list_any (is_timed_out now) self.now.active }
     {
-        let ids = self.requests.ids_late(alloc, now)?;
-        Ok(!ids.is_empty())
+        self.requests.has_late(now)
     }
 
     /// An EventFire for each listener of this event, in the order of their listens. It needs a body that fits, and is refused for

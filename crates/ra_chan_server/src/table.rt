@@ -1,10 +1,10 @@
 //! The requests by their arrivals, with the arrivals of all by their ids, and of those that were not handed out.
 ghost use Rattle.std.specs.Prelude.{◌≡◌, ◌<◌, ◌+◌, ◌++◌, ◌∷◌, [], ℕ, not, Some, None, map, option_map, IfOk, OnOk, OnErr};
-ghost use Rattle.std.specs.List.{AllByRecursion, filter};
+ghost use Rattle.std.specs.List.{AllByRecursion, filter, list_any};
 ghost use Rattle.std.specs.Map.{keys_of, lookup, set_value};
 ghost use Rattle.std.specs.BTreeMap.{is_at};
 ghost use Rattle.std.specs.Ordering.{nat_cmp};
-ghost use Rattle.ra_ipc.specs.ChannelServers.{holds};
+ghost use Rattle.ra_ipc.specs.ChannelServers.{holds, is_timed_out};
 ghost use Rattle.ra_chan_server.specs.Requests.{id_in, is_here, opened, opened_call, marked, ActiveFits};
 ghost use Rattle.ra_chan_server.specs.View.{active_of, call_of};
 ghost use Rattle.ra_chan_server.specs.Held.{Ascending, AreArrivals, AreHeld, arrival_of, request_of, actives, here, SetAt};
@@ -150,6 +150,22 @@ pub fn listed<'a>(
         }
     }
     Ok(found)
+}
+
+/// Whether one of the requests waited for its channel until this moment, or until an earlier one. It takes no memory.
+pub fn has_late(requests: &BTreeMap<u64, Request>, not_handed: &BTreeSet<u64>, now: u64) -> bool
+    requires order { Ascending (keys_of requests.now.entries) }
+    requires here { not_handed.now.keys ≡ here requests.now.entries }
+    ensures { result ≡ list_any (is_timed_out now) (actives requests.now.entries) }
+{
+    for arrival in not_handed.iter() {
+        if let Some(request) = requests.get(arrival) {
+            if request::is_late(request, now) {
+                return true;
+            }
+        }
+    }
+    false
 }
 
 /// Equal requests with the same arrivals.
