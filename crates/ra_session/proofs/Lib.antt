@@ -11,3 +11,5 @@ pub mod Beginning
 pub mod TurnLaws
 pub mod Roles
 pub mod LinkLaws
+pub mod Soundness
+pub mod Carrying

@@ -160,10 +160,10 @@ say_admits h body none kind by = say_judged h body (λ r. r ≡ None) none kind 
 sent_bodies : (c : Client) (m : Message) → map message_bytes (sent_now c m) ≡ cond c.ready (message_bytes m ∷ []) []
 sent_bodies c m = elim (cases_Bool c.ready) [ inl t ↦ rw t refl | inr f ↦ rw f refl ]
 
-still_waiting : (c : Client) (m : Message) → Sayable m → AllByRecursion Sayable c.waiting → AllByRecursion Sayable (waiting_after c m)
+pub still_waiting : (c : Client) (m : Message) → Sayable m → AllByRecursion Sayable c.waiting → AllByRecursion Sayable (waiting_after c m)
 still_waiting c m fits w = cond_both c.ready c.waiting (c.waiting ++ m ∷ []) (AllByRecursion Sayable) (λ t. w) (λ f. all_push Sayable c.waiting m w fits)
 
-all_filter : {X : Type 0} (P : X → Type 0) (test : X → Bool) (xs : List X) → AllByRecursion P xs → AllByRecursion P (filter test xs)
+pub all_filter : {X : Type 0} (P : X → Type 0) (test : X → Bool) (xs : List X) → AllByRecursion P xs → AllByRecursion P (filter test xs)
 all_filter P test [] h = tt
 all_filter P test (x ∷ xs) h = cond_both (test x) (x ∷ filter test xs) (filter test xs) (AllByRecursion P) (λ _. (h.0, all_filter P test xs h.1)) (λ _. all_filter P test xs h.1)
 
@@ -174,7 +174,7 @@ request_said h x m now body is becomes e stands =
     subst (λ (bs : List (List ℕ)). StandsFor x (say_all bs now e))
     (ap (λ (b : List ℕ). cond h.client.ready (b ∷ []) []) is ∙ sym (sent_bodies h.client m)) (becomes e stands)
 
-sayable_as : (m : Message) (body : List ℕ) → body ≡ message_bytes m → length body ≤ body_limit → Sayable m
+pub sayable_as : (m : Message) (body : List ℕ) → body ≡ message_bytes m → length body ≤ body_limit → Sayable m
 sayable_as m body is fits = subst (λ (b : List ℕ). length b ≤ body_limit) is fits
 
 pub call_to : (h : SessionState) (x : EndpointState) (channel name : List ℕ) (arg : Tree) (now : ℕ) (body : List ℕ)

@@ -1,5 +1,5 @@
 -- What a session in memory stands for, through calls of its endpoint.
-use Rattle.std.proofs.Common.{◌≡◌, ℕ, Bool, true, false, Option, Some, None, List, refl, ap, sym, ◌∙◌, subst, length}
+use Rattle.std.proofs.Common.{◌≡◌, ℕ, Bool, true, false, Option, Some, None, List, refl, ap, sym, subst, length}
 use Rattle.std.proofs.lemmas.Bool.{cond-true, cond-false, cond_both, false≢true}
 use Rattle.std.specs.Option.{is_some}
 use Rattle.ra_base.specs.declared.key.Cause.{Cause}
@@ -91,22 +91,6 @@ pub goes_joined : (with_resume : Bool) (now : ℕ) → GoesOn (joined with_resum
 goes_joined with_resume now e going =
     cond_both with_resume (ask_resume (rejoined now e)) (rejoined now e) (λ (x : Endpoint). is_ended x.phase ≡ false)
     (λ t. goes_resume (rejoined now e) (goes_rejoined now e going)) (λ f. goes_rejoined now e going)
-
--- a link that begins, and a reconnection that ends
-pub rejoins : (h x y : EndpointState) (epoch : ℕ) (chunk : List ℕ) (now : ℕ) → Becomes h x (begin epoch chunk now) → is_joining x.phase ≡ true
-    → Becomes x y (finish now) → Becomes h y (λ e. rejoined now (begin epoch chunk now e))
-rejoins h x y epoch chunk now begins joins ends e stands =
-    let b : StandsFor x (begin epoch chunk now e) = begins e stands in
-    subst (λ (z : Endpoint). StandsFor y z)
-    (sym (cond-true (is_joining (begin epoch chunk now e).phase) _ _ (ap is_joining (phase_is x (begin epoch chunk now e) b) ∙ joins)))
-    (ends (begin epoch chunk now e) b)
-
-pub is_up_at_once : (h x : EndpointState) (epoch : ℕ) (chunk : List ℕ) (now : ℕ) → Becomes h x (begin epoch chunk now) → is_joining x.phase ≡ false
-    → Becomes h x (λ e. rejoined now (begin epoch chunk now e))
-is_up_at_once h x epoch chunk now begins joins e stands =
-    let b : StandsFor x (begin epoch chunk now e) = begins e stands in
-    subst (λ (z : Endpoint). StandsFor x z)
-    (sym (cond-false (is_joining (begin epoch chunk now e).phase) _ _ (ap is_joining (phase_is x (begin epoch chunk now e) b) ∙ joins))) b
 
 pub attached : (h : SessionState) (x : EndpointState) (epoch : ℕ) (chunk : List ℕ) (now : ℕ)
     → Becomes h.endpoint x (λ e. joined (resumes h.serves h.kind) now (begin epoch chunk now e))

@@ -1,14 +1,16 @@
 -- What a message does to the channel ends of a session that hears it.
 use Rattle.std.specs.Prelude.{ℕ, List, [], ◌∷◌, Bool, ◌&&◌, ◌==◌, Option, Some, None, Result, Ok, Err, option_map, if◌then◌else◌}
 use Rattle.ra_base.specs.declared.kind.Kind.{Kind}
+use Rattle.ra_values.specs.Spelling.{Fits, levels}
 use Rattle.ra_values.specs.Tree.{Tree}
 use Rattle.ra_ipc.specs.declared.fault.PacketFault.{PacketFault}
 use Rattle.ra_ipc.specs.Messages.{Message, initialize, is_request}
+use Rattle.ra_ipc.specs.Packets.{reply_body}
 use Rattle.ra_ipc.specs.ReadMessage.{message_at, context_at}
 use Rattle.ra_ipc.specs.ChannelServers.{Server, Call}
 use Rattle.ra_ipc.specs.ChannelClients.{Client}
 use Rattle.ra_ipc.specs.ChannelPackets.{active_id, after_request, requested_call, after_packet, Notice, ready, settled, fired, notice_of}
-use Rattle.ra_ipc.specs.ChannelPairs.{Outcome, answered}
+use Rattle.ra_ipc.specs.ChannelPairs.{Outcome, answered, cancelled}
 use Rattle.ra_ipc.specs.Deliveries.{released_by}
 use Rattle.ra_session.specs.Sessions.{is_management}
 
@@ -18,6 +20,17 @@ pub data Happening : Type 0 where
   host : (body : List ℕ) → Happening
   call_settled : (id : ℕ) → Outcome → Happening
   event_fired : (id : ℕ) (body : Tree) → Happening
+
+abbrev pub OutcomeFits : Outcome → Type 0
+OutcomeFits cancelled = Unit {0}
+OutcomeFits (answered reply) = Fits levels (reply_body reply)
+
+-- the value that is handed up can be written
+abbrev pub HappeningFits : Happening → Type 0
+HappeningFits (work call) = Fits levels call.arg
+HappeningFits (host body) = Unit {0}
+HappeningFits (call_settled id outcome) = OutcomeFits outcome
+HappeningFits (event_fired id body) = Fits levels body
 
 -- why a message ends its session
 pub data BadMessage : Type 0 where

@@ -11,3 +11,4 @@ pub mod Faults
 pub mod View
 pub mod Coming
 pub mod Moments
+pub mod Carried

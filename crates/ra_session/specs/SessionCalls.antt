@@ -4,10 +4,11 @@ use Rattle.std.specs.Option.{is_some}
 use Rattle.ra_base.specs.declared.kind.Kind.{Kind}
 use Rattle.ra_base.specs.declared.key.Cause.{Cause}
 use Rattle.ra_base.specs.declared.key.Cause.TheVariants.{Disconnected}
-use Rattle.ra_model.specs.Endpoints.{Endpoint, is_joining, shown}
-use Rattle.ra_model.specs.Calls.{say, finish, ask_resume, feed, wrote, lose, leave, tick}
+use Rattle.ra_model.specs.Endpoints.{Endpoint, shown}
+use Rattle.ra_model.specs.Calls.{say, feed, wrote, lose, leave, tick}
 use Rattle.ra_model.specs.Events.{begun}
 use Rattle.ra_model.specs.Views.{called}
+pub use Rattle.ra_proto.specs.Joining.{rejoined, joined}
 use Rattle.ra_values.specs.Tree.{Tree}
 use Rattle.ra_ipc.specs.Messages.{Reply, Message, promise, promise_cancel, event_listen, event_dispose, response}
 use Rattle.ra_ipc.specs.ChannelServers.{Server, completed, fires, ticked, timeout_answers}
@@ -18,16 +19,9 @@ use Rattle.ra_session.specs.Saying.{says}
 
 -- ---- links
 
--- a reconnection ends
-abbrev pub rejoined : ℕ → Endpoint → Endpoint
-rejoined now e = if is_joining e.phase then finish now e else e
-
 -- the peer of a serving extension host waits for a Resume
 abbrev pub resumes : Bool → Kind → Bool
 resumes serves kind = serves && not (is_management kind)
-
-abbrev pub joined : Bool → ℕ → Endpoint → Endpoint
-joined with_resume now e = if with_resume then ask_resume (rejoined now e) else rejoined now e
 
 -- a link begins, with the bytes that were read of it; a reconnection ends; and a Resume is written where it is waited for
 unfoldable pub attach : ℕ → List ℕ → ℕ → Session → Session

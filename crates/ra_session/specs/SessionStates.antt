@@ -49,6 +49,15 @@ pub record StandsForSession (h : SessionState) (s : Session) : Type 0 where
   pub runs : Runs s.cause s.peer.endpoint
   pub waiting : AllByRecursion Sayable h.client.waiting
 
+-- it has ended, or its endpoint has not; and what waits for Initialize can be said
+pub record IsSound (h : SessionState) : Type 0 where
+  pub runs : h.cause ≡ None → is_ended h.endpoint.phase ≡ false
+  pub waiting : AllByRecursion Sayable h.client.waiting
+
+-- there is a session that it stands for
+abbrev pub StandsForSome : SessionState → Type 0
+StandsForSome h = (s : Session) × StandsForSession h s
+
 abbrev pub OfEachSession : SessionState → (Session → Type 0) → Type 0
 OfEachSession h P = (s : Session) → StandsForSession h s → P s
 

@@ -1,5 +1,5 @@
 -- How a contract sees what the calls of a session take and give.
-use Rattle.std.specs.Prelude.{◌≤◌, ℕ, List, Option, Some, None, option_map, length}
+use Rattle.std.specs.Prelude.{◌≤◌, ℕ, List, [], ◌∷◌, map, Bool, not, Option, Some, None, IfSome, option_map, length}
 use Rattle.ra_base.specs.declared.kind.Kind.{Kind}
 use Rattle.ra_model.specs.Frames.{body_limit}
 use Rattle.ra_values.specs.Spelling.{Fits, levels}
@@ -7,16 +7,17 @@ use Rattle.ra_values.specs.ValueBytes.{value_bytes}
 use Rattle.ra_values.specs.View.{tree}
 use Rattle.ra_ipc.specs.ChannelPairs as pairs
 use Rattle.ra_ipc.specs.View.{id_of, reply}
-use Rattle.ra_session.specs.Sessions.{Session}
+use Rattle.ra_ipc.specs.ChannelServers.{Server}
+use Rattle.ra_session.specs.Sessions.{Session, is_management}
 use Rattle.ra_session.specs.Saying.{serving, dialling}
 use Rattle.ra_values.specs.declared.value.Value.{Value}
-use Rattle.ra_ipc.specs.Packets.{reply_body}
+use Rattle.ra_ipc.specs.Packets.{reply_body, message_bytes}
 use Rattle.ra_ipc.specs.declared.packet.Packet.{Packet}
 use Rattle.ra_ipc.specs.declared.packet.Packet.TheVariants as packets
 use Rattle.ra_chan_server.specs.declared.call.Fire.{Fire}
 use Rattle.ra_session.specs.declared.values.Tell.{Tell}
 use Rattle.ra_session.specs.declared.values.Tell.TheVariants as tells
-use Rattle.ra_session.specs.SessionCalls.{Firing, answer, say_body}
+use Rattle.ra_session.specs.SessionCalls.{Firing, answer, answer_packets, say_body}
 use Rattle.ra_session.specs.SessionRefusals.{Refusal, answer_refusal, say_refusal}
 use Rattle.ra_session.specs.Hearing as hearing
 use Rattle.ra_session.specs.Turns.{TurnAnswer}
@@ -57,6 +58,14 @@ happening_of (happened.Fired id body) = hearing.event_fired (id_of id) (tree bod
 abbrev pub turn_of : Turn → TurnAnswer
 turn_of t = record { out = t.out; happening = option_map happening_of t.happened; took = t.took; again = t.again; ended = t.ended }
 
+-- the argument of a call can be written
+abbrev pub WorkFits : Work → Type 0
+WorkFits work = hearing.HappeningFits (work_of work)
+
+-- every value that a turn hands out can be written
+abbrev pub TurnFits : Turn → Type 0
+TurnFits t = IfSome t.happened (λ h. hearing.HappeningFits (happening_of h))
+
 abbrev pub firing_of : Fire → Firing
 firing_of fire = record { channel = fire.channel; event = fire.event; body = tree fire.body }
 
@@ -67,6 +76,16 @@ told (tells.Say body) now s = say_body body now s
 abbrev pub tell_refusal : Tell → Session → Option Refusal
 tell_refusal (tells.Answer id given fire) s = answer_refusal (id_of id) (reply given) (option_map firing_of fire) s
 tell_refusal (tells.Say body) s = say_refusal body s
+
+-- the messages that the session says
+abbrev pub bodies_told : Tell → Server → List (List ℕ)
+bodies_told (tells.Answer id given fire) server = map message_bytes (answer_packets server (id_of id) (reply given) (option_map firing_of fire))
+bodies_told (tells.Say body) server = body ∷ []
+
+-- it is for sessions of this kind
+abbrev pub is_asked : Tell → Kind → Bool
+is_asked (tells.Answer id given fire) kind = is_management kind
+is_asked (tells.Say body) kind = not (is_management kind)
 
 abbrev pub FireFits : Option Fire → Type 0
 FireFits None = Unit {0}

@@ -1,7 +1,7 @@
 //! A session that begins: of an end that serves, and of one that dialled.
 ghost use Rattle.std.specs.Prelude.{◌≡◌, ◌∷◌, [], false, true, not, if◌then◌else◌, length, IfOk};
 ghost use Rattle.ra_model.specs.EndpointStates.{StandsFor};
-ghost use Rattle.ra_model.specs.Endpoints.{new_endpoint};
+ghost use Rattle.ra_model.specs.Endpoints.{new_endpoint, is_ended};
 ghost use Rattle.ra_proto.specs.SayAll.{say_all};
 ghost use Rattle.ra_values.specs.Spelling.{Fits, levels};
 ghost use Rattle.ra_values.specs.ValueBytes.{value_bytes};
@@ -59,7 +59,8 @@ fn first_endpoint(
     now: Moment,
 ) -> Result<Endpoint, NoMemory>
     requires { Fits levels (tree context.now) }
-    ensures { IfOk result (λ e. StandsFor e (if is_management kind then say_all (value_bytes (tree context.now) ∷ message_bytes initialize ∷ []) now (new_endpoint 0 now true) else new_endpoint 0 now true)) }
+    ensures stands { IfOk result (λ e. StandsFor e (if is_management kind then say_all (value_bytes (tree context.now) ∷ message_bytes initialize ∷ []) now (new_endpoint 0 now true) else new_endpoint 0 now true)) }
+    ensures going { IfOk result (λ e. is_ended e.phase ≡ false) }
 {
     let mut endpoint = Endpoint::new(alloc, now, true);
     if is_management(kind) {

@@ -1,5 +1,5 @@
 //! What a message means to the session that hears it.
-ghost use Rattle.std.specs.Prelude.{◌≡◌, true, false, Ok, [], option_map, Some, None, IfOk};
+ghost use Rattle.std.specs.Prelude.{◌≡◌, true, false, Ok, [], option_map, Some, None, IfOk, IfErr};
 ghost use Rattle.ra_ipc.specs.Messages.{is_request, initialize};
 ghost use Rattle.ra_ipc.specs.Packets.{MessageFits};
 ghost use Rattle.ra_ipc.specs.ReadMessage.{message_at};
@@ -9,12 +9,13 @@ ghost use Rattle.ra_ipc.specs.View.{message};
 ghost use Rattle.ra_chan_server.specs.View.{call_of};
 ghost use Rattle.ra_session.specs.Sessions.{is_management};
 ghost use Rattle.ra_session.specs.Hearing as hearing;
+ghost use Rattle.ra_session.specs.Carried.{TurnCarries};
 ghost use Rattle.ra_session.specs.Coming.{ComesTo, heard_by};
 ghost use Rattle.ra_session.specs.Turns as turns;
 ghost use Rattle.ra_session.specs.TurnRefusals.{TurnLeaves, taken_refusal};
 ghost use Rattle.ra_session.specs.SessionRefusals.{Refuses, bad_ipc, bad_message};
 ghost use Rattle.ra_session.specs.SessionStates.{OfEachSession, SessionBecomes};
-ghost use Rattle.ra_session.specs.View.{turn_of, happening_of};
+ghost use Rattle.ra_session.specs.View.{turn_of, happening_of, TurnFits};
 ghost use Rattle.ra_chan_client.specs.View.{notice};
 
 use crate::fault::{bad_reading, bad_request};
@@ -114,6 +115,7 @@ impl Session {
         requires comes { ComesTo next self.old }
         requires bad { heard_by self.old next now ≡ hearing.spoils (bad_message fault) }
         ensures fault { result ≡ SessionFault.BadIpc fault next.body }
+        ensures carries { TurnCarries result }
         ensures stands { SessionBecomes self.old self.new (turns.take_turn now) }
         ensures refused { OfEachSession self.old (λ s. taken_refusal now s ≡ Some (bad_ipc (bad_message fault) next.body)) }
     {
@@ -132,6 +134,7 @@ impl Session {
         requires kind { is_management self.old.kind ≡ false }
         ensures stands { SessionBecomes self.old self.new (turns.take_turn now) }
         ensures answered { OfEachSession self.old (λ s. turn_of result ≡ turns.taken_answer now s) }
+        ensures fits { TurnFits result }
         ensures refused { OfEachSession self.old (λ s. taken_refusal now s ≡ None) }
     {
         self.endpoint.take_message(next.id, next.ack, next.len, now);
@@ -154,6 +157,8 @@ impl Session {
         requires fits { MessageFits (message packet) }
         ensures leaves { TurnLeaves result (SessionBecomes self.old self.new (turns.take_turn now)) (self.new ≡ self.old) }
         ensures answered { IfOk result (λ t. OfEachSession self.old (λ s. turn_of t ≡ turns.taken_answer now s)) }
+        ensures fits { IfOk result TurnFits }
+        ensures carries { IfErr result TurnCarries }
         ensures refused { OfEachSession self.old (λ s. Refuses result (taken_refusal now s)) }
     {
         match self.server.on_packet(packet, now.millis()) {
@@ -181,9 +186,12 @@ impl Session {
         requires packet { hearing.is_context self.old.serves next.id ≡ false }
         requires reading { message_at next.body ≡ Ok (message packet) }
         requires request { is_request (message packet) ≡ false }
+        requires fits { MessageFits (message packet) }
         requires silent { released_by (notice_of self.old.client (message packet)) ≡ [] }
         ensures leaves { TurnLeaves result (SessionBecomes self.old self.new (turns.take_turn now)) (self.new ≡ self.old) }
         ensures answered { IfOk result (λ t. OfEachSession self.old (λ s. turn_of t ≡ turns.taken_answer now s)) }
+        ensures fits { IfOk result TurnFits }
+        ensures carries { IfErr result TurnCarries }
         ensures refused { OfEachSession self.old (λ s. Refuses result (taken_refusal now s)) }
     {
         let heard = self.client.on_packet(alloc, packet)?;
@@ -204,8 +212,11 @@ impl Session {
         requires packet { hearing.is_context self.old.serves next.id ≡ false }
         requires reading { message_at next.body ≡ Ok (message packet) }
         requires request { is_request (message packet) ≡ false }
+        requires fits { MessageFits (message packet) }
         ensures leaves { TurnLeaves result (SessionBecomes self.old self.new (turns.take_turn now)) (self.new ≡ self.old) }
         ensures answered { IfOk result (λ t. OfEachSession self.old (λ s. turn_of t ≡ turns.taken_answer now s)) }
+        ensures fits { IfOk result TurnFits }
+        ensures carries { IfErr result TurnCarries }
         ensures refused { OfEachSession self.old (λ s. Refuses result (taken_refusal now s)) }
     {
         if releases(&packet, &self.client) {
@@ -226,6 +237,8 @@ impl Session {
         requires packet { hearing.is_context self.old.serves next.id ≡ false }
         ensures leaves { TurnLeaves result (SessionBecomes self.old self.new (turns.take_turn now)) (self.new ≡ self.old) }
         ensures answered { IfOk result (λ t. OfEachSession self.old (λ s. turn_of t ≡ turns.taken_answer now s)) }
+        ensures fits { IfOk result TurnFits }
+        ensures carries { IfErr result TurnCarries }
         ensures refused { OfEachSession self.old (λ s. Refuses result (taken_refusal now s)) }
     {
         match decode(alloc, next.body.as_slice()) {
@@ -252,6 +265,8 @@ impl Session {
         requires { ComesTo next self.old }
         ensures leaves { TurnLeaves result (SessionBecomes self.old self.new (turns.take_turn now)) (self.new ≡ self.old) }
         ensures answered { IfOk result (λ t. OfEachSession self.old (λ s. turn_of t ≡ turns.taken_answer now s)) }
+        ensures fits { IfOk result TurnFits }
+        ensures carries { IfErr result TurnCarries }
         ensures refused { OfEachSession self.old (λ s. Refuses result (taken_refusal now s)) }
     {
         if !is_management(self.kind) {

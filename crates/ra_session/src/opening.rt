@@ -1,5 +1,5 @@
 //! The two messages that begin a management session: the context, which is answered, and Initialize, which releases what waited.
-ghost use Rattle.std.specs.Prelude.{◌≡◌, ◌∷◌, [], true, false, map, Ok, None, IfOk, OnOk};
+ghost use Rattle.std.specs.Prelude.{◌≡◌, ◌∷◌, [], true, false, map, Ok, None, IfOk, IfErr, OnOk};
 ghost use Rattle.ra_ipc.specs.Messages.{initialize};
 ghost use Rattle.ra_ipc.specs.Packets.{message_bytes, MessageFits};
 ghost use Rattle.ra_ipc.specs.Deliveries.{released_by};
@@ -12,11 +12,12 @@ ghost use Rattle.ra_values.specs.Tree.{Tree};
 ghost use Rattle.ra_session.specs.Sessions.{is_management};
 ghost use Rattle.ra_session.specs.Hearing as hearing;
 ghost use Rattle.ra_session.specs.Coming.{ComesTo};
+ghost use Rattle.ra_session.specs.Carried.{TurnCarries};
 ghost use Rattle.ra_session.specs.Turns as turns;
 ghost use Rattle.ra_session.specs.TurnRefusals.{TurnLeaves, taken_refusal};
 ghost use Rattle.ra_session.specs.SessionRefusals.{Refuses};
 ghost use Rattle.ra_session.specs.SessionStates.{OfEachSession, SessionBecomes};
-ghost use Rattle.ra_session.specs.View.{turn_of};
+ghost use Rattle.ra_session.specs.View.{turn_of, TurnFits};
 
 use crate::fault::bad_reading;
 use crate::packets::{bodies_of, body_of};
@@ -79,6 +80,8 @@ impl Session {
         requires reading { (t : Tree) × (context_at next.body ≡ Ok t) }
         ensures leaves { TurnLeaves result (SessionBecomes self.old self.new (turns.take_turn now)) (self.new ≡ self.old) }
         ensures answered { IfOk result (λ t. OfEachSession self.old (λ s. turn_of t ≡ turns.taken_answer now s)) }
+        ensures fits { IfOk result TurnFits }
+        ensures carries { IfErr result TurnCarries }
         ensures refused { OfEachSession self.old (λ s. Refuses result (taken_refusal now s)) }
     {
         let Ok(bodies) = initialize(alloc) else {
@@ -101,6 +104,8 @@ impl Session {
         requires context { hearing.is_context self.old.serves next.id ≡ true }
         ensures leaves { TurnLeaves result (SessionBecomes self.old self.new (turns.take_turn now)) (self.new ≡ self.old) }
         ensures answered { IfOk result (λ t. OfEachSession self.old (λ s. turn_of t ≡ turns.taken_answer now s)) }
+        ensures fits { IfOk result TurnFits }
+        ensures carries { IfErr result TurnCarries }
         ensures refused { OfEachSession self.old (λ s. Refuses result (taken_refusal now s)) }
     {
         match decode_context(alloc, next.body.as_slice()) {
@@ -126,6 +131,8 @@ impl Session {
         requires ready { self.old.client.ready ≡ false }
         ensures leaves { TurnLeaves result (SessionBecomes self.old self.new (turns.take_turn now)) (self.new ≡ self.old) }
         ensures answered { IfOk result (λ t. OfEachSession self.old (λ s. turn_of t ≡ turns.taken_answer now s)) }
+        ensures fits { IfOk result TurnFits }
+        ensures carries { IfErr result TurnCarries }
         ensures refused { OfEachSession self.old (λ s. Refuses result (taken_refusal now s)) }
     {
         let Ok((client, bodies)) = opened(alloc, &self.client) else {

@@ -4,6 +4,7 @@ ghost use Rattle.ra_model.specs.Calls.{say};
 ghost use Rattle.ra_model.specs.Endpoints.{Endpoint as AbstractEndpoint};
 ghost use Rattle.ra_model.specs.EndpointStates.{StandsFor};
 ghost use Rattle.ra_model.specs.Refusals.{say_fault};
+ghost use Rattle.ra_proto.specs.Links.{SameLink};
 ghost use Rattle.ra_proto.specs.Refused.{RefusedBy};
 ghost use Rattle.std.specs.List.{AllByRecursion};
 ghost use Rattle.ra_values.specs.View.{tree};
@@ -54,6 +55,7 @@ pub fn answer_packet(id: i32, answer: Answer) -> Packet
 /// A message is said. At a fault it is dropped.
 pub fn say_one(endpoint: &mut Endpoint, body: Message, now: Moment) -> Result<(), EndFault>
     ensures stands { OnOk result ((e : AbstractEndpoint) → StandsFor endpoint.old e → StandsFor endpoint.new (say body now e)) }
+    ensures link { OnOk result (SameLink endpoint.old endpoint.new) }
     ensures refused { RefusedBy result (say_fault endpoint.old.phase endpoint.old.sent (length body)) }
     ensures err { OnErr result (endpoint.new ≡ endpoint.old) }
 {

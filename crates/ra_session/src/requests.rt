@@ -4,6 +4,7 @@ ghost use Rattle.ra_model.specs.Endpoints.{Endpoint as AbstractEndpoint};
 ghost use Rattle.ra_model.specs.EndpointStates.{StandsFor};
 ghost use Rattle.ra_model.specs.Frames.{body_limit};
 ghost use Rattle.ra_model.specs.Refusals.{say_fault};
+ghost use Rattle.ra_proto.specs.Links.{SameLink};
 ghost use Rattle.ra_proto.specs.Refused.{RefusedBy};
 ghost use Rattle.ra_proto.specs.SayAll.{say_all};
 ghost use Rattle.ra_values.specs.View.{tree};
@@ -15,6 +16,7 @@ ghost use Rattle.ra_ipc.specs.View.{message, id_of};
 ghost use Rattle.ra_chan_client.specs.TakingBack.{IsFresh};
 ghost use Rattle.ra_chan_client.specs.View.{RequestFits};
 ghost use Rattle.ra_session.specs.Sessions.{is_management};
+ghost use Rattle.ra_session.specs.Carried.{SayCarries};
 ghost use Rattle.ra_session.specs.SessionCalls as calls;
 ghost use Rattle.ra_session.specs.SessionRefusals as refusals;
 ghost use Rattle.ra_session.specs.SessionRefusals.{Refuses, if_large};
@@ -146,6 +148,7 @@ fn sized_listen(
 #[tactic(auto, unfolding(ra_proto::specs::SayAll::say_all))]
 fn say_when(endpoint: &mut Endpoint, goes: bool, body: Message, now: Moment) -> Result<(), EndFault>
     ensures stands { OnOk result ((e : AbstractEndpoint) → StandsFor endpoint.old e → StandsFor endpoint.new (say_all (if goes then body ∷ [] else []) now e)) }
+    ensures link { OnOk result (SameLink endpoint.old endpoint.new) }
     ensures refused { RefusedBy result (if goes then say_fault endpoint.old.phase endpoint.old.sent (length body) else None) }
     ensures err { OnErr result (endpoint.new ≡ endpoint.old) }
 {
@@ -251,6 +254,7 @@ impl Session {
         requires size { length body ≤ body_limit }
         ensures id { IfOk result (λ id. id_of id ≡ self.old.client.next) }
         ensures stands { OnOk result (SessionBecomes self.old self.new (calls.call channel name (tree arg) now)) }
+        ensures carries { IfErr result (SayCarries (is_management self.old.kind) (message_bytes (promise self.old.client.next channel name (tree arg)) ∷ [])) }
         ensures refused { OfEachSession self.old (λ s. Refuses result (refusals.call_refusal channel name (tree arg) s)) }
         ensures same { OnErr result (self.new ≡ self.old) }
     {
@@ -277,6 +281,7 @@ impl Session {
         requires { RequestFits channel name (tree arg) }
         ensures id { IfOk result (λ id. id_of id ≡ self.old.client.next) }
         ensures stands { OnOk result (SessionBecomes self.old self.new (calls.call channel name (tree arg) now)) }
+        ensures carries { IfErr result (SayCarries (is_management self.old.kind) (message_bytes (promise self.old.client.next channel name (tree arg)) ∷ [])) }
         ensures refused { OfEachSession self.old (λ s. Refuses result (refusals.call_refusal channel name (tree arg) s)) }
         ensures same { OnErr result (self.new ≡ self.old) }
     {
@@ -308,6 +313,7 @@ impl Session {
         requires size { length body ≤ body_limit }
         ensures id { IfOk result (λ id. id_of id ≡ self.old.client.next) }
         ensures stands { OnOk result (SessionBecomes self.old self.new (calls.listen channel event (tree arg) now)) }
+        ensures carries { IfErr result (SayCarries (is_management self.old.kind) (message_bytes (event_listen self.old.client.next channel event (tree arg)) ∷ [])) }
         ensures refused { OfEachSession self.old (λ s. Refuses result (refusals.listen_refusal channel event (tree arg) s)) }
         ensures same { OnErr result (self.new ≡ self.old) }
     {
@@ -335,6 +341,7 @@ impl Session {
         requires { RequestFits channel event (tree arg) }
         ensures id { IfOk result (λ id. id_of id ≡ self.old.client.next) }
         ensures stands { OnOk result (SessionBecomes self.old self.new (calls.listen channel event (tree arg) now)) }
+        ensures carries { IfErr result (SayCarries (is_management self.old.kind) (message_bytes (event_listen self.old.client.next channel event (tree arg)) ∷ [])) }
         ensures refused { OfEachSession self.old (λ s. Refuses result (refusals.listen_refusal channel event (tree arg) s)) }
         ensures same { OnErr result (self.new ≡ self.old) }
     {

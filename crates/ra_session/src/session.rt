@@ -1,20 +1,17 @@
 //! The session: what it keeps, and its links.
 ghost use Rattle.std.specs.Prelude.{◌≡◌, ◌&&◌, ◌==◌, true, None, OnOk, OnErr, IfErr};
 ghost use Rattle.ra_model.specs.Endpoints.{Endpoint as AbstractEndpoint, is_linked};
-ghost use Rattle.ra_model.specs.EndpointStates.{StandsFor};
-ghost use Rattle.ra_model.specs.Refusals.{begin_fault};
-ghost use Rattle.ra_model.specs.Calls.{begin};
-ghost use Rattle.ra_proto.specs.Refused.{RefusedBy};
+ghost use Rattle.ra_model.specs.EndpointStates.{StandsFor, IsConsistent};
 ghost use Rattle.ra_proto.specs.Shown.{shown_of};
+ghost use Rattle.ra_session.specs.Carried.{AttachCarries};
 ghost use Rattle.ra_session.specs.SessionCalls as calls;
 ghost use Rattle.ra_session.specs.SessionRefusals.{Refuses, IsEnd, attach_refusal, feed_refusal};
-ghost use Rattle.ra_session.specs.SessionStates.{OfEachSession, SessionBecomes};
+ghost use Rattle.ra_session.specs.SessionStates.{OfEachSession, SessionBecomes, StandsForSome};
 
 use crate::values::SessionFault;
 use ra_base::{Cause, Kind, Message, Moment};
 use ra_chan_client::ChannelClient;
 use ra_chan_server::ChannelServer;
-use ra_model::EndFault;
 use ra_proto::{Endpoint, Marks};
 use std::alloc::Global;
 use std::marker::Model;
@@ -33,13 +30,15 @@ pub struct Session {
 impl Model for Session {
     ghost use Rattle.std.specs.Coded.{codes};
     ghost use Rattle.ra_values.specs.TreeCode.{coded_tree};
-    ghost use Rattle.ra_session.specs.SessionStates.{SessionState};
+    ghost use Rattle.ra_session.specs.SessionStates.{SessionState, IsSound};
 
     ghost Value = { SessionState };
 
     ghost coded = { Prim.hlevel (codes, coded_tree) };
 
     ghost view = { λ s. record { endpoint = s.endpoint; kind = s.kind; serves = s.serves; server = s.server; client = s.client; cause = s.cause } };
+
+    ghost invariant = { λ s. IsSound (record { endpoint = s.endpoint; kind = s.kind; serves = s.serves; server = s.server; client = s.client; cause = s.cause }) };
 }
 
 /// Fails where the session has ended.
@@ -63,37 +62,6 @@ fn resumes(serves: bool, kind: Kind) -> bool
     }
 }
 
-/// A link begins, and a reconnection ends. At a fault the endpoint is of no use any more.
-fn join(
-    endpoint: &mut Endpoint,
-    with_resume: bool,
-    epoch: u64,
-    chunk: &[u8],
-    now: Moment,
-) -> Result<(), EndFault>
-    ensures stands { OnOk result ((e : AbstractEndpoint) → StandsFor endpoint.old e → StandsFor endpoint.new (calls.joined with_resume now (begin epoch chunk.now now e))) }
-    ensures refused { RefusedBy result (begin_fault endpoint.old.phase endpoint.old.epoch epoch) }
-{
-    rejoin(endpoint, epoch, chunk, now)?;
-    if with_resume {
-        endpoint.ask_resume()?;
-    }
-    Ok(())
-}
-
-/// A link begins, and a reconnection ends, up to the Resume.
-fn rejoin(endpoint: &mut Endpoint, epoch: u64, chunk: &[u8], now: Moment) -> Result<(), EndFault>
-    ensures stands { OnOk result ((e : AbstractEndpoint) → StandsFor endpoint.old e → StandsFor endpoint.new (calls.rejoined now (begin epoch chunk.now now e))) }
-    ensures linked { OnOk result (is_linked endpoint.new.phase ≡ true) }
-    ensures refused { RefusedBy result (begin_fault endpoint.old.phase endpoint.old.epoch epoch) }
-{
-    let joins = endpoint.begin_link(epoch, chunk, now)?;
-    if joins {
-        endpoint.end_link(now)?;
-    }
-    Ok(())
-}
-
 impl Session {
     /// Why the session has ended, if it has.
     pub fn cause(&self) -> Option<Cause>
@@ -111,7 +79,9 @@ impl Session {
 
     /// The last ids given, handed up and acknowledged.
     pub fn marks(&self) -> Marks
-        ensures { result ≡ record { sent = self.now.endpoint.sent; received = self.now.endpoint.received; acknowledged = self.now.endpoint.acknowledged } }
+        ensures consistent { IsConsistent self.now.endpoint }
+        ensures stands { StandsForSome self.now }
+        ensures marks { result ≡ record { sent = self.now.endpoint.sent; received = self.now.endpoint.received; acknowledged = self.now.endpoint.acknowledged } }
     {
         self.endpoint.marks()
     }
@@ -152,18 +122,13 @@ impl Session {
     ) -> Result<(), SessionFault>
         ensures stands { OnOk result (SessionBecomes self.old self.new (calls.attach epoch chunk.now now)) }
         ensures refused { OfEachSession self.old (λ s. Refuses result (attach_refusal epoch s)) }
+        ensures carries { IfErr result AttachCarries }
         ensures same { OnErr result (self.new ≡ self.old) }
     {
         running(self.cause)?;
-        let mut endpoint = self.endpoint.copy(alloc)?;
-        join(
-            &mut endpoint,
-            resumes(self.serves, self.kind),
-            epoch,
-            chunk,
-            now,
-        )?;
-        self.endpoint = endpoint;
+        let with_resume = resumes(self.serves, self.kind);
+        self.endpoint
+            .join_link(alloc, epoch, chunk, with_resume, now)?;
         Ok(())
     }
 

@@ -1,13 +1,15 @@
 //! What an application tells a session: answers to calls, and messages of an extension host.
-ghost use Rattle.std.specs.Prelude.{◌≡◌, ◌<◌, ◌^◌, ◌∷◌, [], true, map, option_map, IfOk, OnOk, OnErr};
+ghost use Rattle.std.specs.Prelude.{◌≡◌, ◌<◌, ◌^◌, ◌∷◌, [], true, not, map, option_map, IfOk, IfErr, OnOk, OnErr};
 ghost use Rattle.std.specs.List.{AllByRecursion};
 ghost use Rattle.ra_values.specs.Spelling.{Fits, levels};
 ghost use Rattle.ra_ipc.specs.Packets.{MessageFits, message_bytes, reply_body};
 ghost use Rattle.ra_ipc.specs.View.{message, id_of, reply};
+ghost use Rattle.ra_session.specs.Carried.{SayCarries};
+ghost use Rattle.ra_session.specs.Sessions.{is_management};
 ghost use Rattle.ra_session.specs.SessionCalls as calls;
 ghost use Rattle.ra_session.specs.SessionRefusals.{Refuses, answer_refusal, say_refusal};
 ghost use Rattle.ra_session.specs.SessionStates.{OfEachSession, SessionBecomes};
-ghost use Rattle.ra_session.specs.View.{firing_of, FireFits, TellFits, told, tell_refusal};
+ghost use Rattle.ra_session.specs.View.{firing_of, FireFits, TellFits, told, tell_refusal, is_asked, bodies_told};
 
 use crate::hearing::is_management;
 use crate::packets::{answer_packet, bodies_of, say_one};
@@ -66,6 +68,7 @@ impl Session {
         requires answer { Fits levels (reply_body (reply answer)) }
         requires fire { FireFits fire.now }
         ensures stands { OnOk result (SessionBecomes self.old self.new (calls.answer (id_of id) (reply answer) (option_map firing_of fire.now) now)) }
+        ensures carries { IfErr result (SayCarries (is_management self.old.kind) (map message_bytes (calls.answer_packets self.old.server (id_of id) (reply answer) (option_map firing_of fire.now)))) }
         ensures refused { OfEachSession self.old (λ s. Refuses result (answer_refusal (id_of id) (reply answer) (option_map firing_of fire.now) s)) }
         ensures same { OnErr result (self.new ≡ self.old) }
     {
@@ -87,6 +90,7 @@ impl Session {
     /// An extension host says a message.
     fn say(&mut self, body: Message, now: Moment) -> Result<(), SessionFault>
         ensures stands { OnOk result (SessionBecomes self.old self.new (calls.say_body body now)) }
+        ensures carries { IfErr result (SayCarries (not (is_management self.old.kind)) (body ∷ [])) }
         ensures refused { OfEachSession self.old (λ s. Refuses result (say_refusal body s)) }
         ensures same { OnErr result (self.new ≡ self.old) }
     {
@@ -103,6 +107,7 @@ impl Session {
     pub fn tell(&mut self, alloc: Global, tell: Tell, now: Moment) -> Result<(), SessionFault>
         requires { TellFits tell }
         ensures stands { OnOk result (SessionBecomes self.old self.new (told tell now)) }
+        ensures carries { IfErr result (SayCarries (is_asked tell self.old.kind) (bodies_told tell self.old.server)) }
         ensures refused { OfEachSession self.old (λ s. Refuses result (tell_refusal tell s)) }
         ensures same { OnErr result (self.new ≡ self.old) }
     {

@@ -4,6 +4,7 @@ ghost use Rattle.std.specs.List.{list_any};
 ghost use Rattle.ra_model.specs.Calls.{leave, times_out};
 ghost use Rattle.ra_model.specs.Endpoints.{Endpoint as AbstractEndpoint, shown};
 ghost use Rattle.ra_model.specs.EndpointStates.{StandsFor};
+ghost use Rattle.ra_proto.specs.Links.{SameLink};
 ghost use Rattle.ra_ipc.specs.Packets.{message_bytes};
 ghost use Rattle.ra_ipc.specs.ChannelServers.{is_timed_out, ticked, timeout_answers};
 ghost use Rattle.ra_session.specs.SessionCalls as calls;
@@ -45,6 +46,7 @@ fn ticked_endpoint(
     now: Moment,
 ) -> Result<(Endpoint, Ticked), EndFault>
     ensures stands { IfOk result (λ r. IsTicked endpoint.now r.0 bodies.items now) }
+    ensures link { IfOk result (λ r. SameLink endpoint.now r.0) }
     ensures timeout { IfOk result (λ r. (e : AbstractEndpoint) → StandsFor endpoint.now e → r.1.timed_out ≡ times_out now e) }
     ensures refused { IfErr result (λ fault. TickRefused fault endpoint.now bodies.items now) }
 {
@@ -96,11 +98,10 @@ impl Session {
         if self.cause.is_some() {
             return Ok(Ticked { timed_out: false });
         }
-        match self.server.has_late(alloc, now.millis()) {
-            Ok(true) => self.tick_calls(alloc, now),
-            Ok(false) => self.tick_endpoint(now),
-            Err(_) => Err(SessionFault::NoMemory),
+        if !self.server.has_late(now.millis()) {
+            return self.tick_endpoint(now);
         }
+        self.tick_calls(alloc, now)
     }
 
     /// The session is left: the peer is told, where there is a link. Answers the bytes that are to be put on it.

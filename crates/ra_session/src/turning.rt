@@ -1,5 +1,5 @@
 //! Turns: bytes come, one frame is applied, and what it means happens.
-ghost use Rattle.std.specs.Prelude.{◌≡◌, true, false, None, IfOk, OnOk, OnErr};
+ghost use Rattle.std.specs.Prelude.{◌≡◌, true, false, None, IfOk, IfErr, OnOk, OnErr};
 ghost use Rattle.ra_model.specs.Endpoints.{Endpoint as AbstractEndpoint, is_linked};
 ghost use Rattle.ra_model.specs.EndpointStates.{StandsFor};
 ghost use Rattle.ra_model.specs.FirstFrame.{is_too_long};
@@ -7,11 +7,12 @@ ghost use Rattle.ra_model.specs.Taking.{delivery};
 ghost use Rattle.ra_proto.specs.Coming.{is_no_message};
 ghost use Rattle.ra_proto.specs.Shown.{shown_of, is_ready};
 ghost use Rattle.ra_session.specs.SessionCalls.{emptied};
+ghost use Rattle.ra_session.specs.Carried.{TurnCarries};
 ghost use Rattle.ra_session.specs.Turns as turns;
 ghost use Rattle.ra_session.specs.TurnRefusals.{TurnLeaves, is_bad_ipc, taken_refusal, turn_refusal};
 ghost use Rattle.ra_session.specs.SessionRefusals.{Refuses};
 ghost use Rattle.ra_session.specs.SessionStates.{OfEachSession, SessionBecomes};
-ghost use Rattle.ra_session.specs.View.{turn_of};
+ghost use Rattle.ra_session.specs.View.{turn_of, TurnFits};
 
 use crate::session::{Session, running};
 use crate::values::{Happened, SessionFault, Turn};
@@ -79,6 +80,8 @@ impl Session {
         requires coming { (e : AbstractEndpoint) → StandsFor self.old.endpoint e → is_no_message (delivery e) ≡ true }
         ensures leaves { TurnLeaves result (SessionBecomes self.old self.new (turns.take_turn now)) (self.new ≡ self.old) }
         ensures answered { IfOk result (λ t. OfEachSession self.old (λ s. turn_of t ≡ turns.taken_answer now s)) }
+        ensures fits { IfOk result TurnFits }
+        ensures carries { IfErr result TurnCarries }
         ensures refused { OfEachSession self.old (λ s. Refuses result (taken_refusal now s)) }
     {
         let up = self.endpoint.next(now)?;
@@ -93,6 +96,8 @@ impl Session {
         requires linked { is_linked self.old.endpoint.phase ≡ true }
         ensures leaves { TurnLeaves result (SessionBecomes self.old self.new (turns.take_turn now)) (self.new ≡ self.old) }
         ensures answered { IfOk result (λ t. OfEachSession self.old (λ s. turn_of t ≡ turns.taken_answer now s)) }
+        ensures fits { IfOk result TurnFits }
+        ensures carries { IfErr result TurnCarries }
         ensures refused { OfEachSession self.old (λ s. Refuses result (taken_refusal now s)) }
     {
         match self.endpoint.peek()? {
@@ -115,6 +120,8 @@ impl Session {
     ) -> Result<Turn, SessionFault>
         ensures leaves { TurnLeaves result (SessionBecomes self.old self.new (turns.turn epoch piece.now now)) (self.new ≡ self.old) }
         ensures answered { IfOk result (λ t. OfEachSession self.old (λ s. turn_of t ≡ turns.turn_answer epoch piece.now now s)) }
+        ensures fits { IfOk result TurnFits }
+        ensures carries { IfErr result TurnCarries }
         ensures refused { OfEachSession self.old (λ s. Refuses result (turn_refusal epoch piece.now now s)) }
     {
         running(self.cause)?;

@@ -5,6 +5,9 @@ use Rattle.ra_session.specs.View.{happening_of}
 use Rattle.ra_session.specs.declared.values.Happened.{Happened}
 use Rattle.ra_session.proofs.Meanings.{context_is}
 use Rattle.ra_session.proofs.TurnSteps.{heard_to, heard_answer, says_refuses, says_admits, initialize_sayable}
+use Rattle.ra_session.proofs.Carrying.{sayable_carries}
+use Rattle.std.proofs.Common.{◌∷◌, []}
+use Rattle.ra_ipc.specs.Messages.{initialize}
 use Rattle.ra_session.proofs.session.Session.answer_context.Goals as goal
 
 pub returns-in_err-take_and_say-clause-refused : goal.returns-in_err-take_and_say-clause-refused
@@ -50,3 +53,8 @@ returns-clause-refused c =
     (says_admits _ c.args.next.id c.args.next.body c.args.now _ _ comes.going comes.fits comes.handed
     (context_is _ _ _ _ c.args.next.id c.args.next.body c.args.now _ kind context c.requires.reading.1)
     (λ w. initialize_sayable) c.in-Ok.ensures c.in_ok-take_and_say.ensures.refused)
+
+pub returns-in_err-take_and_say-clause-carries : goal.returns-in_err-take_and_say-clause-carries
+returns-in_err-take_and_say-clause-carries c =
+    let p = err_from_is_err_and c.from_residual.result c.from_residual.ensures.1 in
+    rw (p.1, p.2) (sayable_carries _ _ (initialize ∷ []) _ _ initialize_sayable c.in-Ok.ensures c.in_err-take_and_say.ensures.refused)

@@ -6,6 +6,7 @@ use Rattle.ra_ipc.specs.View.{id_of}
 use Rattle.ra_session.specs.Faults.{fault_of}
 use Rattle.ra_session.specs.SessionRefusals.{Refusal, IsRefusal, wrong_kind, no_such_call}
 use Rattle.ra_session.proofs.SaySteps.{cancel_to, as_cancel, end_ended, end_wrong, end_unknown, end_refuses, end_admits, cancel_sayable}
+use Rattle.ra_session.proofs.Soundness.{cancelled_sound}
 use Rattle.ra_session.proofs.session.Session.cancel.Goals as goal
 
 pub returns-in_err-running-clause-refused : goal.returns-in_err-running-clause-refused
@@ -53,3 +54,6 @@ returns-clause-refused c =
     (as_cancel _ (id_of c.args.id) (λ (r : Option Refusal). r ≡ None)
     (end_admits _ (id_of c.args.id) c.self.inside.client.calls (promise_cancel (id_of c.args.id)) _ c.in_ok-running.ensures.ok (sym c.is_management.ensures ∙ c.if-not-is_management.false) (sym known ∙ c.if-not-has_call.false)
     (cancel_sayable (id_of c.args.id)) (rw same at c.in-Ok.ensures) refused))
+
+pub invariant_of-self-2 : goal.invariant_of-self-2
+invariant_of-self-2 c = rw c.cancelled.ensures (cancelled_sound _ _ _ c.self.invariant c.in_ok-say_when.ensures.link)

@@ -6,6 +6,7 @@ use Rattle.ra_ipc.specs.View.{id_of}
 use Rattle.ra_session.specs.Faults.{fault_of}
 use Rattle.ra_session.specs.SessionRefusals.{Refusal, IsRefusal, wrong_kind, no_such_call}
 use Rattle.ra_session.proofs.SaySteps.{dispose_to, as_dispose, end_ended, end_wrong, end_unknown, end_refuses, end_admits, dispose_sayable}
+use Rattle.ra_session.proofs.Soundness.{disposed_sound}
 use Rattle.ra_session.proofs.session.Session.dispose.Goals as goal
 
 pub returns-in_err-running-clause-refused : goal.returns-in_err-running-clause-refused
@@ -53,3 +54,6 @@ returns-clause-refused c =
     (as_dispose _ (id_of c.args.id) (λ (r : Option Refusal). r ≡ None)
     (end_admits _ (id_of c.args.id) c.self.inside.client.listeners (event_dispose (id_of c.args.id)) _ c.in_ok-running.ensures.ok (sym c.is_management.ensures ∙ c.if-not-is_management.false) (sym known ∙ c.if-not-has_listener.false)
     (dispose_sayable (id_of c.args.id)) (rw same at c.in-Ok.ensures) refused))
+
+pub invariant_of-self-2 : goal.invariant_of-self-2
+invariant_of-self-2 c = rw c.disposed.ensures (disposed_sound _ _ _ c.self.invariant c.in_ok-say_when.ensures.link)

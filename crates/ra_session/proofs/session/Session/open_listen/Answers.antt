@@ -2,6 +2,7 @@ use Rattle.std.proofs.Common.{◌≡◌, Option, None}
 use Rattle.ra_session.specs.Faults.{fault_of}
 use Rattle.ra_session.specs.SessionRefusals.{Refusal, IsRefusal}
 use Rattle.ra_session.proofs.SaySteps.{listen_to, as_listen, request_refuses, request_admits}
+use Rattle.ra_session.proofs.Soundness.{listened_sound}
 use Rattle.ra_session.proofs.session.Session.open_listen.Goals as goal
 
 pub returns-in-Err-clause-refused : goal.returns-in-Err-clause-refused
@@ -29,3 +30,8 @@ returns-clause-refused c =
     let refused = rw c.is_ready-goes.ensures at c.in_default-say_when.ensures.refused in
     rw (← c.self.view_is)
     (as_listen _ _ _ _ (λ (r : Option Refusal). r ≡ None) (request_admits _ _ _ going kind left body c.requires.size refused))
+
+pub invariant_of-self-in_default-say_when : goal.invariant_of-self-in_default-say_when
+invariant_of-self-in_default-say_when c =
+    let body = rw (← c.self.view_is) at c.requires.body in
+    rw c.in-Ok.ensures.after (listened_sound _ _ _ c.args.body c.self.invariant c.in_default-say_when.ensures.link body c.requires.size)

@@ -5,6 +5,7 @@ use Rattle.ra_model.specs.Taking.{delivery}
 use Rattle.ra_session.specs.SessionStates.{SessionState}
 use Rattle.std.proofs.lemmas.Result.{err_from_is_err_and}
 use Rattle.ra_session.proofs.TurnSteps.{too_long_refuses, none_to, none_answer, none_admits}
+use Rattle.ra_session.proofs.Carrying.{take_carries}
 use Rattle.ra_session.proofs.session.Session.take_one.Goals as goal
 
 pub returns-in_err-peek-clause-refused : goal.returns-in_err-peek-clause-refused
@@ -29,3 +30,8 @@ returns-in-Nothing-clause-refused c =
     let none = rw c.in-Nothing.is at c.in_ok-peek.ensures.agrees in
     let linked = rw (← c.self.view_is) at c.requires.linked in
     rw (← c.self.view_is) (none_admits _ c.args.now linked none c.in_ok-peek.ensures.refused)
+
+pub returns-in_err-peek-clause-carries : goal.returns-in_err-peek-clause-carries
+returns-in_err-peek-clause-carries c =
+    let p = err_from_is_err_and c.from_residual.result c.from_residual.ensures.1 in
+    rw (p.1, p.2) (take_carries _ _ _ c.in_err-peek.ensures.refused)

@@ -1,5 +1,6 @@
 use Rattle.std.proofs.lemmas.Result.{err_from_is_err_and}
 use Rattle.ra_session.proofs.TurnSteps.{too_long_refuses, other_to, other_answer, other_admits}
+use Rattle.ra_session.proofs.Carrying.{take_carries}
 use Rattle.ra_session.proofs.session.Session.take_other.Goals as goal
 
 pub returns-in_err-up-clause-refused : goal.returns-in_err-up-clause-refused
@@ -30,3 +31,8 @@ returns-clause-refused c =
     let linked = rw (← c.self.view_is) at c.requires.linked in
     let coming = rw (← c.self.view_is) at c.requires.coming in
     rw (← c.self.view_is) (other_admits _ c.args.now linked coming c.in_ok-up.ensures.refused)
+
+pub returns-in_err-up-clause-carries : goal.returns-in_err-up-clause-carries
+returns-in_err-up-clause-carries c =
+    let p = err_from_is_err_and c.from_residual.result c.from_residual.ensures.1 in
+    rw (p.1, p.2) (take_carries _ _ _ c.in_err-up.ensures.refused)
