@@ -27,9 +27,10 @@ use Rattle.ra_session.specs.SessionStates.{SessionState}
 use Rattle.ra_hub.specs.Faults.{of_admission}
 use Rattle.ra_hub.specs.Hubs.{Hub, row, at_key, enter, admitted, refused}
 use Rattle.ra_hub.specs.HubCalls.{Admits}
-use Rattle.ra_hub.specs.Standing.{AddsSession, RemovesSession, SameSessions, BothStand, StandsForHub}
+use Rattle.ra_hub.specs.Standing.{AddsSession, RemovesSession, SameSessions, BothStand, SessionsStand, StandsForHub}
 use Rattle.ra_hub.proofs.AdmittedRows.{rows_are, admissions_grow}
 use Rattle.ra_hub.proofs.HubLemmas.{hub_entered, hub_kept, session_row}
+use Rattle.ra_hub.proofs.KeyLists.{follows_itself, keys_follow}
 use Rattle.ra_hub.proofs.SweepLemmas.{distinct_more}
 
 no_row : {T : Type 0} (r : Option Row) → r ≡ None → is_some r ≡ true → T
@@ -51,6 +52,22 @@ or_left false b e f = f
 or_same : (a b : Bool) → (a ≡ true → b ≡ true) → b ≡ (a || b)
 or_same true b h = h refl
 or_same false b h = refl
+
+or_nothing : (b : Bool) → (b || false) ≡ b
+or_nothing true = refl
+or_nothing false = refl
+
+or_true : (b : Bool) → (b || true) ≡ true
+or_true true = refl
+or_true false = refl
+
+not_true : (b : Bool) → (b ≡ true → ⊥) → b ≡ false
+not_true true no_way = absurd (no_way refl)
+not_true false no_way = refl
+
+is_there : (o : Option SessionState) → o ≡ None → is_some o ≡ true → ⊥
+is_there None none there = cc
+is_there (Some x) none there = cc
 
 -- ---- requests that are not admitted
 
@@ -156,10 +173,13 @@ pub same_hub : (registry : RegistryState) (old new : BTreeMap Key SessionState) 
     → StandsForHub registry old keys h → StandsForHub registry new keys h
 same_hub registry old new keys h same stands = record {
   registry_is = stands.registry_is;
-  sessions_stand = λ key. subst (λ (o : Option SessionState). BothStand o (h.session key)) (sym (same key)) (stands.sessions_stand key);
-  keys_are = record { once = stands.keys_are.once; among = λ key. stands.keys_are.among key ∙ ap is_some (sym (same key)) };
+  sessions_stand = after;
+  keys_are = keys_follow keys old new h.session h.session stands.sessions_stand after (λ key. follows_itself (h.session key)) stands.keys_are;
   sessions_are = stands.sessions_are;
 }
+  where
+    after : SessionsStand new h.session
+    after key = subst (λ (o : Option SessionState). BothStand o (h.session key)) (sym (same key)) (stands.sessions_stand key)
 
 pub new_admitted : (registry after : RegistryState) (old between : BTreeMap Key SessionState) (keys : List Key) (h : Hub) (ask : Request) (now : ℕ) (seat : Seat)
     → StandsForHub registry old keys h → ask.reconnection ≡ false → get key_cmp old (key_of ask) ≡ None → AddsSession old between (key_of ask) now
@@ -186,22 +206,20 @@ new_admitted registry after old between keys h ask now seat stands new none adds
     grown other true same = refl
     grown other false apart = stands.sessions_are other
 
-    among : (other : Key) → list_any (same_key other) (keys ++ key ∷ []) ≡ is_some (get key_cmp between other)
+    among : (other : Key) → list_any (same_key other) (keys ++ key ∷ []) ≡ (list_any (same_key other) keys || same_key key other)
     among other =
         list_any-append (same_key other) keys (key ∷ []) ∙ ap (λ (b : Bool). list_any (same_key other) keys || b) (or_nothing (same_key other key) ∙ same_key_other_way other key)
-        ∙ ap (λ (b : Bool). b || same_key key other) (stands.keys_are.among other) ∙ there (same_key key other) ∙ ap is_some (sym (adds.2 other))
-      where
-        or_nothing : (b : Bool) → (b || false) ≡ b
-        or_nothing true = refl
-        or_nothing false = refl
 
-        or_true : (b : Bool) → (b || true) ≡ true
-        or_true true = refl
-        or_true false = refl
+    fresh : list_any (same_key key) keys ≡ false
+    fresh = not_true (list_any (same_key key) keys) (λ in_keys. is_there (get key_cmp old key) none (stands.keys_are.there key in_keys))
 
-        there : (b : Bool) → (is_some (get key_cmp old other) || b) ≡ is_some (cond b (Some adds.0) (get key_cmp old other))
-        there true = or_true (is_some (get key_cmp old other))
-        there false = or_nothing (is_some (get key_cmp old other))
+    there : (other : Key) (b : Bool) → same_key key other ≡ b → (list_any (same_key other) keys || b) ≡ true → is_some (cond b (Some adds.0) (get key_cmp old other)) ≡ true
+    there other true same in_keys = refl
+    there other false apart in_keys = stands.keys_are.there other (sym (or_nothing (list_any (same_key other) keys)) ∙ in_keys)
+
+    going : (other : Key) (b : Bool) (x : SessionState) → cond b (Some adds.0) (get key_cmp old other) ≡ Some x → x.cause ≡ None → (list_any (same_key other) keys || b) ≡ true
+    going other true x is goes = or_true (list_any (same_key other) keys)
+    going other false x is goes = or_nothing (list_any (same_key other) keys) ∙ stands.keys_are.going other x is goes
 
     standing : StandsForHub after between (keys ++ key ∷ []) (enter (admission_entry h.registry ask now) (at_key key s h))
     standing = record {
@@ -209,8 +227,9 @@ new_admitted registry after old between keys h ask now seat stands new none adds
       sessions_stand = λ other.
           subst (λ (o : Option SessionState). BothStand o (cond (same_key key other) (Some s) (h.session other))) (sym (adds.2 other)) (at other (same_key key other) refl);
       keys_are = record {
-        once = distinct_more keys key stands.keys_are.once (stands.keys_are.among key ∙ ap is_some none);
-        among = among;
+        once = distinct_more keys key stands.keys_are.once fresh;
+        there = λ other in_keys. ap is_some (adds.2 other) ∙ there other (same_key key other) refl (sym (among other) ∙ in_keys);
+        going = λ other x is goes. among other ∙ going other (same_key key other) x (sym (adds.2 other) ∙ is) goes;
       };
       sessions_are = λ other.
           grown other (same_key key other) refl ∙ sym (admissions_grow other h.registry.history (admission_entry h.registry ask now) refl);

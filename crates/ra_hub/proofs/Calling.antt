@@ -10,7 +10,8 @@ use Rattle.ra_session.specs.SessionRefusals.{Refusal, Refuses, IsRefusal, tick_r
 use Rattle.ra_session.specs.SessionStates.{SessionState, StandsForSession, OfEachSession, SessionBecomes}
 use Rattle.ra_session.specs.declared.values.SessionFault.{SessionFault}
 use Rattle.ra_session.specs.declared.values.SessionFault.TheVariants as faults
-use Rattle.ra_hub.specs.Standing.{AtSession, Sets, Called, Ticked, is_no_memory}
+use Rattle.ra_hub.specs.Faults.{is_no_memory}
+use Rattle.ra_hub.specs.Standing.{AtSession, Sets, Called, Ticked}
 use Rattle.ra_hub.specs.Sweeps.{tick_one}
 
 from_some : SessionState → Option SessionState → SessionState

@@ -28,18 +28,19 @@ use Rattle.ra_base.specs.Keys.{key_cmp}
 use Rattle.ra_hub.specs.Standing.{AtSession, Sets, BothStand, Called, Turned, StandsForHub, SessionsStand}
 use Rattle.ra_hub.specs.Tellings.{TellsNobody}
 use Rattle.ra_hub.proofs.HubLemmas.{hub_set, hub_same, hub_entered, hub_kept, seat_has, session_row}
+use Rattle.ra_hub.proofs.Endings.{GoesBack, turn_back, told_back, lose_back, end_back}
 use Rattle.ra_hub.proofs.SessionMaps.{in_memory}
 
 -- ---- calls that a refusal leaves as they were
 
 pub called_ok : {X Y : Type 0} (registry : RegistryState) (old new : BTreeMap Key SessionState) (keys : List Key) (h : Hub) (key : Key) (s : Session)
     (refusal : Session → Option Refusal) (step : Session → Session) (r : X) (y : Y)
-    → StandsForHub registry old keys h → h.session key ≡ Some s → AtSession old new key (Called refusal step (Ok r))
+    → StandsForHub registry old keys h → h.session key ≡ Some s → AtSession old new key (Called refusal step (Ok r)) → GoesBack step
     → Answers (refusal s) GivesNothing (at_key key (step s) h) (λ (fault : SessionFault). h) h (Ok y) (StandsForHub registry new keys)
-called_ok registry old new keys h key s refusal step r y stands is called =
+called_ok registry old new keys h key s refusal step r y stands is called back =
     let x = in_memory old h.session key s stands.sessions_stand is in
     let done = called.there x.0 x.1 in
-    ((done.2 s x.2).0, tt, hub_set registry old new keys h key _ s (step s) stands called is (λ a b to holds. (holds s to).1))
+    ((done.2 s x.2).0, tt, hub_set registry old new keys h key _ s (step s) stands called is (λ a b to holds. (holds s to).1) (back s))
 
 pub called_err : (X Y : Type 0) (registry : RegistryState) (old new : BTreeMap Key SessionState) (keys : List Key) (h : Hub) (key : Key) (s : Session)
     (refusal : Session → Option Refusal) (step : Session → Session) (fault : SessionFault)
@@ -80,7 +81,7 @@ turned_ok registry old new keys h seat piece now t stands some called =
       (
         done.2.refused has.0 x.2,
         done.2.answered has.0 x.2,
-        hub_set registry old new keys h seat.key _ has.0 (turn seat.epoch piece now has.0) stands called has.1 (λ a b to holds. holds.leaves has.0 to),
+        hub_set registry old new keys h seat.key _ has.0 (turn seat.epoch piece now has.0) stands called has.1 (λ a b to holds. holds.leaves has.0 to) (turn_back seat.epoch piece now has.0),
       ),
     )
 
@@ -111,7 +112,7 @@ turned_err registry old new keys h seat piece now fault stands some called =
     after : (b : Bool) → is_bad_ipc fault ≡ b → StandsForHub registry new keys (cond (is_bad_ipc fault) made h)
     after true is =
         subst (λ (b : Bool). StandsForHub registry new keys (cond b made h)) (sym is)
-        (hub_set registry old new keys h seat.key _ has.0 (turn seat.epoch piece now has.0) stands called has.1 (λ a b to holds. bad a b is holds has.0 to))
+        (hub_set registry old new keys h seat.key _ has.0 (turn seat.epoch piece now has.0) stands called has.1 (λ a b to holds. bad a b is holds has.0 to) (turn_back seat.epoch piece now has.0))
     after false is =
         subst (λ (b : Bool). StandsForHub registry new keys (cond b made h)) (sym is)
         (hub_same registry old new keys h seat.key _ stands called (λ a b holds. good a b is holds))
@@ -172,7 +173,7 @@ pub told_ok : {X Y : Type 0} (registry : RegistryState) (old new : BTreeMap Key 
     → Tells h key tell now (Ok y) (StandsForHub registry new keys)
 told_ok registry old new keys h key tell now r y stands there called =
     let s = session_of (get key_cmp old key) (h.session key) there (stands.sessions_stand key) in
-    tells_session registry old keys h key tell now s.0 (Ok y) _ stands s.1 (called_ok registry old new keys h key s.0 (tell_refusal tell) (told tell now) r y stands s.1 called)
+    tells_session registry old keys h key tell now s.0 (Ok y) _ stands s.1 (called_ok registry old new keys h key s.0 (tell_refusal tell) (told tell now) r y stands s.1 called (told_back tell now))
 
 pub told_err : (X Y : Type 0) (registry : RegistryState) (old new : BTreeMap Key SessionState) (keys : List Key) (h : Hub) (key : Key) (tell : Tell) (now : ℕ) (fault : SessionFault)
     → StandsForHub registry old keys h → is_some (get key_cmp old key) ≡ true → AtSession old new key (Called {X = X} (tell_refusal tell) (told tell now) (Err fault))
@@ -195,7 +196,7 @@ loses registry after old new keys h seat now stands some called is =
       has.0,
       has.1,
       hub_entered registry after new keys (at_key seat.key (lose_session seat.epoch has.0) h) (entry_of seat.key now (Lost seat.epoch))
-          (hub_set registry old new keys h seat.key _ has.0 (lose_session seat.epoch has.0) stands called has.1 (λ x y to becomes. becomes has.0 to)) is refl,
+          (hub_set registry old new keys h seat.key _ has.0 (lose_session seat.epoch has.0) stands called has.1 (λ x y to becomes. becomes has.0 to) (lose_back seat.epoch has.0)) is refl,
     )
 
 ends_there : (registry : RegistryState) (old new : BTreeMap Key SessionState) (keys : List Key) (h : Hub) (seat : Seat) (cause : Cause) (s : Session)
@@ -212,7 +213,7 @@ ends_there registry old new keys h seat cause s stands is closed open_still = he
         → StandsForHub registry new keys (cond (closes seat.epoch (row h seat.key)) (at_key seat.key (end_session cause s) h) h)
     here true e =
         subst (λ (b : Bool). StandsForHub registry new keys (cond b (at_key seat.key (end_session cause s) h) h)) (sym e ∙ same)
-        (hub_set registry old new keys h seat.key _ s (end_session cause s) stands (closed e) is (λ x y to becomes. becomes s to))
+        (hub_set registry old new keys h seat.key _ s (end_session cause s) stands (closed e) is (λ x y to becomes. becomes s to) (end_back cause s))
     here false e =
         subst (λ (b : Bool). StandsForHub registry new keys (cond b (at_key seat.key (end_session cause s) h) h)) (sym e ∙ same)
         (subst (λ (m : BTreeMap Key SessionState). StandsForHub registry m keys h) (sym (open_still e)) stands)

@@ -1,8 +1,7 @@
 -- What a hub in memory stands for, after one piece of a call.
 use Rattle.std.proofs.Common.{◌≡◌, ℕ, ◌<◌, Bool, true, false, cond, ◌||◌, List, Option, None, Some, is_some, refl, sym, ap, subst, ◌∙◌}
 use Rattle.std.specs.Prelude.{nat_lt}
-use Rattle.std.specs.BTreeMap.{BTreeMap, get}
-use Rattle.ra_base.specs.Keys.{key_cmp}
+use Rattle.std.specs.BTreeMap.{BTreeMap}
 use Rattle.ra_base.specs.declared.key.Key.{Key}
 use Rattle.ra_base.specs.declared.key.Seat.{Seat}
 use Rattle.ra_registry.specs.declared.past.Past.{Past}
@@ -13,33 +12,13 @@ use Rattle.ra_registry.proofs.SameKeys.{same_key_is}
 use Rattle.ra_session.specs.Sessions.{Session}
 use Rattle.ra_session.specs.SessionStates.{SessionState, StandsForSession}
 use Rattle.ra_hub.specs.Hubs.{Hub, row, with_session, at_key, enter}
-use Rattle.ra_hub.specs.Standing.{AtSession, AreKeys, StandsForHub}
+use Rattle.ra_hub.specs.Standing.{AtSession, SessionsStand, StandsForHub}
 use Rattle.ra_hub.specs.Running.{HubRuns}
 use Rattle.ra_hub.proofs.AdmittedRows.{rows_are, seat_admitted, admissions_stay}
+use Rattle.ra_hub.proofs.KeyLists.{follows_itself, follows_set, keys_follow}
 use Rattle.ra_hub.proofs.SessionMaps.{in_memory, stand_set, stand_same}
 
 -- ---- sessions
-
--- a call leaves a session where there is one, and none where there is none
-pub still_there : (old new : BTreeMap Key SessionState) (key : Key) (P : SessionState → SessionState → Type 0) → AtSession old new key P
-    → (other : Key) → is_some (get key_cmp new other) ≡ is_some (get key_cmp old other)
-still_there old new key P called other = here (get key_cmp old key) refl
-  where
-    set : (b : Bool) (y x : SessionState) → same_key key other ≡ b → get key_cmp old key ≡ Some x
-        → is_some (cond b (Some y) (get key_cmp old other)) ≡ is_some (get key_cmp old other)
-    set true y x same is = sym (ap (λ (k : Key). is_some (get key_cmp old k)) (sym (same_key_is key other same)) ∙ ap is_some is)
-    set false y x apart is = refl
-
-    here : (o : Option SessionState) → get key_cmp old key ≡ o → is_some (get key_cmp new other) ≡ is_some (get key_cmp old other)
-    here None is = ap is_some (called.none is other)
-    here (Some x) is = let done = called.there x is in ap is_some (done.1 other) ∙ set (same_key key other) done.0 x refl is
-
-pub keys_stay : (keys : List Key) (old new : BTreeMap Key SessionState) (key : Key) (P : SessionState → SessionState → Type 0) → AtSession old new key P
-    → AreKeys keys old → AreKeys keys new
-keys_stay keys old new key P called are = record {
-  once = are.once;
-  among = λ other. are.among other ∙ sym (still_there old new key P called other);
-}
 
 set_there : (f : Key → Option Session) (key other : Key) (s t : Session) → f key ≡ Some s → is_some (with_session key t f other) ≡ is_some (f other)
 set_there f key other s t is = here (same_key key other) refl
@@ -51,24 +30,30 @@ set_there f key other s t is = here (same_key key other) refl
 -- a call of one session
 pub hub_set : (registry : RegistryState) (old new : BTreeMap Key SessionState) (keys : List Key) (h : Hub) (key : Key) (P : SessionState → SessionState → Type 0) (s t : Session)
     → StandsForHub registry old keys h → AtSession old new key P → h.session key ≡ Some s
-    → ((x y : SessionState) → StandsForSession x s → P x y → StandsForSession y t)
+    → ((x y : SessionState) → StandsForSession x s → P x y → StandsForSession y t) → (t.cause ≡ None → s.cause ≡ None)
     → StandsForHub registry new keys (at_key key t h)
-hub_set registry old new keys h key P s t stands called is becomes = record {
+hub_set registry old new keys h key P s t stands called is becomes back = record {
   registry_is = stands.registry_is;
-  sessions_stand = stand_set old new key P h.session s t called stands.sessions_stand is becomes;
-  keys_are = keys_stay keys old new key P called stands.keys_are;
+  sessions_stand = after;
+  keys_are = keys_follow keys old new h.session (with_session key t h.session) stands.sessions_stand after (λ other. follows_set h.session key other s t is back) stands.keys_are;
   sessions_are = λ other. set_there h.session key other s t is ∙ stands.sessions_are other;
 }
+  where
+    after : SessionsStand new (with_session key t h.session)
+    after = stand_set old new key P h.session s t called stands.sessions_stand is becomes
 
 -- a call that leaves its session as it was
 pub hub_same : (registry : RegistryState) (old new : BTreeMap Key SessionState) (keys : List Key) (h : Hub) (key : Key) (P : SessionState → SessionState → Type 0)
     → StandsForHub registry old keys h → AtSession old new key P → ((x y : SessionState) → P x y → y ≡ x) → StandsForHub registry new keys h
 hub_same registry old new keys h key P stands called same = record {
   registry_is = stands.registry_is;
-  sessions_stand = stand_same old new key P h.session called stands.sessions_stand same;
-  keys_are = keys_stay keys old new key P called stands.keys_are;
+  sessions_stand = after;
+  keys_are = keys_follow keys old new h.session h.session stands.sessions_stand after (λ other. follows_itself (h.session other)) stands.keys_are;
   sessions_are = stands.sessions_are;
 }
+  where
+    after : SessionsStand new h.session
+    after = stand_same old new key P h.session called stands.sessions_stand same
 
 -- ---- the registry
 

@@ -1,6 +1,8 @@
 pub mod Calling
 pub mod SessionMaps
 pub mod SweepLemmas
+pub mod Endings
+pub mod KeyLists
 pub mod AdmittedRows
 pub mod HubLemmas
 pub mod HubCalls

@@ -3,6 +3,7 @@ use Rattle.std.proofs.Common.{◌≡◌, ℕ, Bool, true, false, cond, ◌||◌,
 use Rattle.std.specs.Prelude.{nat_lt}
 use Rattle.std.specs.BTreeMap.{BTreeMap, get}
 use Rattle.std.specs.List.{list_any}
+use Rattle.std.specs.Option.{is_none}
 use Rattle.std.proofs.Math.Seq.{drop-append_seam}
 use Rattle.std.proofs.lemmas.List.{append_assoc}
 use Rattle.ra_base.specs.Keys.{key_cmp}
@@ -22,10 +23,13 @@ use Rattle.ra_session.specs.SessionCalls.{end_session, tick_session}
 use Rattle.ra_session.specs.SessionRefusals.{tick_refusal}
 use Rattle.ra_session.specs.SessionStates.{SessionState}
 use Rattle.ra_hub.specs.Hubs.{Hub}
-use Rattle.ra_hub.specs.Standing.{BothStand, SessionsStand, StandsForHub}
-use Rattle.ra_hub.specs.Sweeping.{ended_if, ended_in, EndsAll, reached, ticked_in, TicksAll}
-use Rattle.ra_hub.specs.Sweeps.{AreDistinct, IsSwept, grace_is_over, swept, tick_one}
+use Rattle.ra_hub.specs.Standing.{AreKeys, BothStand, SessionsStand, StandsForHub}
+use Rattle.ra_hub.specs.Sweeping.{ended_if, ended_in, EndsAll, is_going, going_keys, reached, ticked_in, TicksAll}
+use Rattle.ra_hub.specs.Sweeps.{AreDistinct, IsSwept, MayBeLeft, grace_is_over, swept, tick_one}
 use Rattle.ra_hub.proofs.AdmittedRows.{admissions_stay}
+use Rattle.ra_hub.proofs.Endings.{ended_back, reached_back}
+use Rattle.ra_hub.proofs.KeyLists.{Follows, follows_step, keys_follow, going_any, going_are, and_left, state_cause}
+use Rattle.ra_hub.proofs.SessionMaps.{in_memory}
 
 -- ---- the entries of the expiries
 
@@ -69,18 +73,37 @@ one_swept true false now s = tick_ended now (end_session GraceOver s) (over_is_s
 one_swept false true now s = refl
 one_swept false false now s = refl
 
--- a session that is there has its turn
-each_swept : (come over left : Bool) (now : ℕ) (p : Option Session) → come ≡ is_some p
-    → option_map (reached come left now) (option_map (ended_if over) p) ≡ option_map (swept over left now) p
-each_swept come over left now None is = refl
-each_swept come over left now (Some s) is =
-    ap Some (ap (λ (b : Bool). reached b left now (ended_if over s)) is ∙ one_swept over left now s)
+rest_swept : (over left : Bool) (now : ℕ) (s : Session) → is_some (ended_if over s).cause ≡ true → ended_if over s ≡ swept over left now s
+rest_swept true left now s ended = refl
+rest_swept false true now s ended = refl
+rest_swept false false now s ended = sym (tick_ended now s ended)
 
-both_there : (o : Option SessionState) (p : Option Session) → BothStand o p → is_some o ≡ is_some p
-both_there None None both = refl
-both_there None (Some s) both = absurd both
-both_there (Some x) None both = absurd both
-both_there (Some x) (Some s) both = refl
+-- a session that is there has its turn, or has ended
+each_swept : (come over left : Bool) (now : ℕ) (p : Option Session) → (come ≡ false → (s : Session) → p ≡ Some s → is_some (ended_if over s).cause ≡ true)
+    → option_map (reached come left now) (option_map (ended_if over) p) ≡ option_map (swept over left now) p
+each_swept come over left now None rest = refl
+each_swept true over left now (Some s) rest = ap Some (one_swept over left now s)
+each_swept false over left now (Some s) rest = ap Some (rest_swept over left now s (rest refl s refl))
+
+some_unless : (c : Option Cause) → (c ≡ None → ⊥) → is_some c ≡ true
+some_unless None no_way = absurd (no_way refl)
+some_unless (Some cause) no_way = refl
+
+cause_none : (c : Option Cause) → is_none c ≡ true → c ≡ None
+cause_none None none = refl
+cause_none (Some cause) none = cc
+
+ended_some : (c : Option Cause) → is_some c ≡ true → c ≡ None → ⊥
+ended_some None some none = cc
+ended_some (Some cause) some none = cc
+
+-- a session in memory that goes on
+may_leave : (o : Option SessionState) (over : Bool) (p : Option Session) → BothStand o (option_map (ended_if over) p) → is_going o ≡ true → MayBeLeft over p
+may_leave None over p both going = cc
+may_leave (Some x) over None both going = absurd both
+may_leave (Some x) true (Some s) both going =
+    absurd (ended_some (end_session GraceOver s).cause (over_is_some s) (state_cause x (end_session GraceOver s) both ∙ cause_none x.cause going))
+may_leave (Some x) false (Some s) both going = (refl, state_cause x s both ∙ cause_none x.cause going)
 
 some_map : (g : Session → Session) (p : Option Session) → is_some (option_map g p) ≡ is_some p
 some_map g None = refl
@@ -88,11 +111,11 @@ some_map g (Some s) = refl
 
 -- ---- the hub
 
-pub sweeps : (registry after : RegistryState) (old between new : BTreeMap Key SessionState) (keys : List Key) (h : Hub) (now expired short : ℕ)
+pub sweeps : (registry after : RegistryState) (old between new : BTreeMap Key SessionState) (keys kept : List Key) (h : Hub) (now expired short : ℕ)
     → StandsForHub registry old keys h → Expires registry now expired after → EndsAll (drop (length registry.history) after.history) old between
-    → (AreDistinct keys → TicksAll keys now short between new)
-    → (swept_hub : Hub) × StandsForHub after new keys swept_hub × IsSwept h now expired short swept_hub
-sweeps registry after old between new keys h now expired short stands rows ends ticks = (
+    → kept ≡ going_keys keys between → (AreDistinct kept → TicksAll kept now short between new)
+    → (swept_hub : Hub) × StandsForHub after new kept swept_hub × IsSwept h now expired short swept_hub
+sweeps registry after old between new keys kept h now expired short stands rows ends kept_is ticks = (
   to,
   standing,
   record {
@@ -100,13 +123,34 @@ sweeps registry after old between new keys h now expired short stands rows ends 
     left = done.left;
     counted = done.counted;
     once = done.once;
-    there = λ key left. sym (both_there (get key_cmp old key) (h.session key) (stands.sessions_stand key)) ∙ sym (stands.keys_are.among key) ∙ done.among key left;
+    there = λ key left.
+        subst (λ (b : Bool). MayBeLeft b (h.session key)) (over key)
+        (may_leave (get key_cmp between key) (has_key behind key) (h.session key) (ended key) (goes key (done.among key left)));
     sessions = λ key. refl;
   },
 )
   where
-    done : TicksAll keys now short between new
-    done = ticks stands.keys_are.once
+    behind : List Past
+    behind = drop (length registry.history) after.history
+
+    ended : SessionsStand between (ended_in behind h.session)
+    ended = ends h.session stands.sessions_stand
+
+    keys_between : AreKeys keys between
+    keys_between =
+        keys_follow keys old between h.session (ended_in behind h.session) stands.sessions_stand ended
+        (λ key. follows_step (ended_if (has_key behind key)) (h.session key) (ended_back (has_key behind key))) stands.keys_are
+
+    keys_kept : AreKeys kept between
+    keys_kept = subst (λ (ks : List Key). AreKeys ks between) (sym kept_is) (going_are keys between keys_between)
+
+    goes : (key : Key) → list_any (same_key key) kept ≡ true → is_going (get key_cmp between key) ≡ true
+    goes key among =
+        and_left (is_going (get key_cmp between key)) (list_any (same_key key) keys)
+        (sym (going_any keys between key) ∙ ap (list_any (same_key key)) (sym kept_is) ∙ among)
+
+    done : TicksAll kept now short between new
+    done = ticks keys_kept.once
 
     rows_of : Expires h.registry now expired after
     rows_of = subst (λ (r : RegistryState). Expires r now expired after) stands.registry_is rows
@@ -120,35 +164,44 @@ sweeps registry after old between new keys h now expired short stands rows ends 
     history : after.history ≡ registry.history ++ map (expiry_of now) rows.keys
     history = ap (λ (r : RegistryState). r.history) rows.entered
 
-    entries : drop (length registry.history) after.history ≡ map (expiry_of now) rows.keys
+    entries : behind ≡ map (expiry_of now) rows.keys
     entries = ap (λ (es : List Past). drop (length registry.history) es) history ∙ drop-append_seam registry.history (map (expiry_of now) rows.keys)
 
-    over : (key : Key) → has_key (drop (length registry.history) after.history) key ≡ grace_is_over h now key
+    over : (key : Key) → has_key behind key ≡ grace_is_over h now key
     over key =
         ap (λ (es : List Past). has_key es key) entries ∙ expired_key now rows.keys key ∙ rows.each key
         ∙ ap (λ (r : RegistryState). is_over r (row_of r key) now) stands.registry_is
 
-    come : (key : Key) → list_any (same_key key) keys ≡ is_some (h.session key)
-    come key = stands.keys_are.among key ∙ both_there (get key_cmp old key) (h.session key) (stands.sessions_stand key)
+    rest : (key : Key) → list_any (same_key key) kept ≡ false → (s : Session) → h.session key ≡ Some s → is_some (ended_if (has_key behind key) s).cause ≡ true
+    rest key apart s is =
+        some_unless (ended_if (has_key behind key) s).cause
+        (λ none.
+        let x = in_memory between (ended_in behind h.session) key (ended_if (has_key behind key) s) ended (ap (option_map (ended_if (has_key behind key))) is) in
+        true_false (sym (keys_kept.going key x.0 x.1 (sym (state_cause x.0 _ x.2) ∙ none)) ∙ apart))
+      where
+        true_false : true ≡ false → ⊥
+        true_false e = cc
 
-    each : (key : Key) → ticked_in keys done.left now (ended_in (drop (length registry.history) after.history) h.session) key ≡ to.session key
+    each : (key : Key) → ticked_in kept done.left now (ended_in behind h.session) key ≡ to.session key
     each key =
-        ap (λ (b : Bool). option_map (reached (list_any (same_key key) keys) (list_any (same_key key) done.left) now) (option_map (ended_if b) (h.session key))) (over key)
-        ∙ each_swept (list_any (same_key key) keys) (grace_is_over h now key) (list_any (same_key key) done.left) now (h.session key) (come key)
+        each_swept (list_any (same_key key) kept) (has_key behind key) (list_any (same_key key) done.left) now (h.session key) (rest key)
+        ∙ ap (λ (b : Bool). option_map (swept b (list_any (same_key key) done.left) now) (h.session key)) (over key)
 
     sessions : SessionsStand new to.session
     sessions key =
-        subst (λ (p : Option Session). BothStand (get key_cmp new key) p) (each key)
-        (done.sessions (ended_in (drop (length registry.history) after.history) h.session) (ends h.session stands.sessions_stand) key)
+        subst (λ (p : Option Session). BothStand (get key_cmp new key) p) (each key) (done.sessions (ended_in behind h.session) ended key)
 
-    standing : StandsForHub after new keys to
+    follow : (key : Key) → Follows (ended_in behind h.session key) (to.session key)
+    follow key =
+        subst (λ (p : Option Session). Follows (ended_in behind h.session key) p) (each key)
+        (follows_step (reached (list_any (same_key key) kept) (list_any (same_key key) done.left) now) (ended_in behind h.session key)
+        (reached_back (list_any (same_key key) kept) (list_any (same_key key) done.left) now))
+
+    standing : StandsForHub after new kept to
     standing = record {
       registry_is = refl;
       sessions_stand = sessions;
-      keys_are = record {
-        once = stands.keys_are.once;
-        among = λ key. come key ∙ sym (some_map _ (h.session key)) ∙ sym (both_there (get key_cmp new key) (to.session key) (sessions key));
-      };
+      keys_are = keys_follow kept between new (ended_in behind h.session) to.session ended sessions follow keys_kept;
       sessions_are = λ key.
           some_map _ (h.session key) ∙ stands.sessions_are key
           ∙ ap (λ (r : RegistryState). nat_lt 0 (admissions_of key r.history)) (sym stands.registry_is)

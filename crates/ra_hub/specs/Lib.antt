@@ -6,6 +6,7 @@ pub mod JobLists
 pub mod Jobs
 pub mod KeepCauses
 pub mod Keeping
+pub mod MemHubs
 pub mod OtherSessions
 pub mod Running
 pub mod Standing

@@ -10,7 +10,6 @@ use Rattle.ra_registry.specs.RegistryStates.{RegistryState}
 use Rattle.ra_registry.specs.Seats.{admissions_of}
 use Rattle.ra_session.specs.Sessions.{Session}
 use Rattle.ra_session.specs.declared.values.SessionFault.{SessionFault}
-use Rattle.ra_session.specs.declared.values.SessionFault.TheVariants as faults
 use Rattle.ra_session.specs.declared.values.Turn.{Turn}
 use Rattle.ra_session.specs.Saying.{serving}
 use Rattle.ra_session.specs.SessionRefusals.{Refusal, IsRefusal, Refuses}
@@ -31,10 +30,11 @@ BothStand (Some x) (Some s) = StandsForSession x s
 abbrev pub SessionsStand : BTreeMap Key SessionState → (Key → Option Session) → Type 0
 SessionsStand sessions session = (key : Key) → BothStand (get key_cmp sessions key) (session key)
 
--- these are the keys of the sessions, each once
+-- these are keys of sessions, each once, and among them those of all sessions that have not ended
 pub record AreKeys (keys : List Key) (sessions : BTreeMap Key SessionState) : Type 0 where
   pub once : AreDistinct keys
-  pub among : (key : Key) → list_any (same_key key) keys ≡ is_some (get key_cmp sessions key)
+  pub there : (key : Key) → list_any (same_key key) keys ≡ true → is_some (get key_cmp sessions key) ≡ true
+  pub going : (key : Key) (x : SessionState) → get key_cmp sessions key ≡ Some x → x.cause ≡ None → list_any (same_key key) keys ≡ true
 
 -- a key has a session where it was ever admitted
 abbrev pub HasSessions : Hub → Type 0
@@ -72,18 +72,6 @@ pub record Turned (epoch : ℕ) (piece : List ℕ) (now : ℕ) (result : Result 
 abbrev pub Ticked : ℕ → Bool → SessionState → SessionState → Type 0
 Ticked now true x y = SessionBecomes x y (tick_one now)
 Ticked now false x y = y ≡ x
-
-abbrev pub is_no_memory : SessionFault → Bool
-is_no_memory (faults.Ended cause) = false
-is_no_memory (faults.Stale current) = false
-is_no_memory faults.NoLink = false
-is_no_memory (faults.TooLong stated) = false
-is_no_memory (faults.BadIpc fault message) = false
-is_no_memory (faults.TooLarge len) = false
-is_no_memory faults.IdsSpent = false
-is_no_memory (faults.NoSuchCall id) = false
-is_no_memory faults.WrongKind = false
-is_no_memory faults.NoMemory = true
 
 -- ---- sessions that come and go
 

@@ -1,6 +1,8 @@
 -- What a sweep makes of the sessions in memory, key by key.
-use Rattle.std.specs.Prelude.{◌≡◌, ℕ, Bool, true, List, length, Option, option_map, if◌then◌else◌}
-use Rattle.std.specs.BTreeMap.{BTreeMap}
+use Rattle.std.specs.Prelude.{◌≡◌, ℕ, Bool, true, false, List, length, filter, Option, Some, None, option_map, if◌then◌else◌}
+use Rattle.std.specs.BTreeMap.{BTreeMap, get}
+use Rattle.std.specs.Option.{is_none}
+use Rattle.ra_base.specs.Keys.{key_cmp}
 use Rattle.std.specs.List.{list_any}
 use Rattle.ra_base.specs.declared.key.Cause.TheVariants.{GraceOver}
 use Rattle.ra_base.specs.declared.key.Key.{Key}
@@ -23,6 +25,15 @@ ended_in entries f key = option_map (ended_if (has_key entries key)) (f key)
 -- the sessions of these entries have ended
 abbrev pub EndsAll : List Past → BTreeMap Key SessionState → BTreeMap Key SessionState → Type 0
 EndsAll entries old new = (f : Key → Option Session) → SessionsStand old f → SessionsStand new (ended_in entries f)
+
+-- there is a session, and it has not ended
+abbrev pub is_going : Option SessionState → Bool
+is_going None = false
+is_going (Some x) = is_none x.cause
+
+-- the keys of the sessions that have not ended, in their order
+abbrev pub going_keys : List Key → BTreeMap Key SessionState → List Key
+going_keys keys sessions = filter (λ key. is_going (get key_cmp sessions key)) keys
 
 -- a session whose turn has come or not, and that found memory or not
 abbrev pub reached : (come left : Bool) → ℕ → Session → Session

@@ -1,5 +1,5 @@
 -- A tick of a hub: rows whose grace is over expire, and the sessions see the moment.
-use Rattle.std.specs.Prelude.{◌≡◌, ℕ, ◌<◌, Bool, true, false, List, length, take, slice_index_or, option_map, if◌then◌else◌}
+use Rattle.std.specs.Prelude.{◌≡◌, ℕ, ◌<◌, Bool, true, false, List, length, take, slice_index_or, Option, Some, None, option_map, if◌then◌else◌}
 use Rattle.std.specs.Option.{is_some}
 use Rattle.std.specs.List.{list_any}
 use Rattle.ra_base.specs.declared.key.Cause.TheVariants.{GraceOver}
@@ -27,12 +27,17 @@ grace_is_over h now key = is_over h.registry (row h key) now
 abbrev pub AreDistinct : List Key → Type 0
 AreDistinct keys = (i : ℕ) (d : Key) → i < length keys → list_any (same_key (slice_index_or keys i d)) (take i keys) ≡ false
 
--- The sessions of the keys in `left` found no memory; each is there and counted once. Every session becomes what its own row, its own
--- state and the moment say.
+-- a session that may be left: it is there, its grace is not over, and it has not ended
+abbrev pub MayBeLeft : Bool → Option Session → Type 0
+MayBeLeft over None = ⊥
+MayBeLeft over (Some s) = (over ≡ false) × (s.cause ≡ None)
+
+-- The sessions of the keys in `left` found no memory; each may be left, and is counted once. Every session becomes what its own row, its
+-- own state and the moment say.
 pub record IsSwept (before : Hub) (now expired short : ℕ) (after : Hub) : Type 0 where
   pub rows : Expires before.registry now expired after.registry
   pub left : List Key
   pub counted : short ≡ length left
   pub once : AreDistinct left
-  pub there : (key : Key) → list_any (same_key key) left ≡ true → is_some (before.session key) ≡ true
+  pub there : (key : Key) → list_any (same_key key) left ≡ true → MayBeLeft (grace_is_over before now key) (before.session key)
   pub sessions : (key : Key) → after.session key ≡ option_map (swept (grace_is_over before now key) (list_any (same_key key) left) now) (before.session key)

@@ -1,5 +1,6 @@
 //! Why a call of a hub is refused.
 ghost use Rattle.std.specs.Prelude.{◌≡◌};
+ghost use Rattle.ra_hub.specs.Faults as spec;
 ghost use Rattle.ra_hub.specs.Faults.{of_admission, of_session};
 ghost use Rattle.ra_hub.specs.declared.fault.HubFault.TheVariants as faults;
 
@@ -21,6 +22,37 @@ pub enum HubFault {
     /// The record of an acceptance was not kept.
     KeepFault,
     NoMemory,
+}
+
+impl HubFault {
+    /// Whether memory ran out, in the hub or in the session.
+    pub fn is_no_memory(&self) -> bool
+        ensures { result ≡ spec.is_short self.now }
+    {
+        match self {
+            HubFault::NoMemory => true,
+            HubFault::Session { fault } => is_no_memory(fault),
+            HubFault::Refused { .. } | HubFault::NoSession | HubFault::KeepFault => false,
+        }
+    }
+}
+
+/// Whether memory ran out in a session.
+pub fn is_no_memory(fault: &SessionFault) -> bool
+    ensures { result ≡ spec.is_no_memory fault.now }
+{
+    match fault {
+        SessionFault::NoMemory => true,
+        SessionFault::Ended { .. }
+        | SessionFault::Stale { .. }
+        | SessionFault::NoLink
+        | SessionFault::TooLong { .. }
+        | SessionFault::BadIpc { .. }
+        | SessionFault::TooLarge { .. }
+        | SessionFault::IdsSpent
+        | SessionFault::NoSuchCall { .. }
+        | SessionFault::WrongKind => false,
+    }
 }
 
 impl From<NoMemory> for HubFault {

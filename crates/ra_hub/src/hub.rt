@@ -1,8 +1,9 @@
 //! The trait of a hub: all sessions of a server.
-ghost use Rattle.std.specs.Prelude.{◌≡◌, ◌≢◌, ℕ, ◌<◌, ◌≤◌, Some, IfOk, OnErr};
+ghost use Rattle.std.specs.Prelude.{◌≡◌, ◌≢◌, ℕ, ◌<◌, ◌≤◌, Some, IfOk, IfErr, OnErr};
 ghost use Rattle.ra_base.specs.declared.key.Seat.{Seat};
 ghost use Rattle.ra_base.specs.declared.kind.Kind.TheVariants as kinds;
-ghost use Rattle.ra_session.specs.View.{TellFits};
+ghost use Rattle.ra_session.specs.View.{TellFits, TurnFits};
+ghost use Rattle.ra_hub.specs.Faults.{IsOfAdmission, IsOfAttach, IsOfTurn, IsOfKey};
 ghost use Rattle.ra_hub.specs.Hubs as hubs;
 ghost use Rattle.ra_hub.specs.HubCalls.{Admits, Attaches, Turns, Tells, Loses, Closes};
 ghost use Rattle.ra_hub.specs.HubSeats.{Gives, Spends, Stay};
@@ -45,6 +46,7 @@ pub trait Hub {
         ensures given { IfOk result (λ seat. Gives seat (seats self.old) (seats self.new)) }
         ensures seated { IfOk result (λ seat. 0 < seats self.new seat) }
         ensures not_given { OnErr result (Stay (seats self.old) (seats self.new)) }
+        ensures fault { IfErr result IsOfAdmission }
         ensures cause { HasKeepCause (keep_faults self.old) (keep_faults self.new) result };
 
     /// A link begins at the session of this seat, with the bytes that were read of it.
@@ -57,10 +59,11 @@ pub trait Hub {
     ) -> Result<(), HubFault>
         requires { 0 < seats self.old seat.now }
         ensures told { (h : hubs.Hub) → stands self.old h → Attaches h seat.now chunk.now now result (stands self.new) }
+        ensures fault { IfErr result IsOfAttach }
         ensures seats { Stay (seats self.old) (seats self.new) }
         ensures kept { keep_faults self.new ≡ keep_faults self.old };
 
-    /// Bytes come over the link of this seat, and one frame is applied.
+    /// Bytes come over the link of this seat, and one frame is applied. Every value that is handed out can be written.
     fn turn(
         &mut self,
         alloc: Global,
@@ -70,6 +73,8 @@ pub trait Hub {
     ) -> Result<Turn, HubFault>
         requires { 0 < seats self.old seat.now }
         ensures told { (h : hubs.Hub) → stands self.old h → Turns h seat.now piece.now now result (stands self.new) }
+        ensures fits { IfOk result TurnFits }
+        ensures fault { IfErr result IsOfTurn }
         ensures seats { Stay (seats self.old) (seats self.new) }
         ensures kept { keep_faults self.new ≡ keep_faults self.old };
 
@@ -78,6 +83,7 @@ pub trait Hub {
     fn tell(&mut self, alloc: Global, key: &Key, tell: Tell, now: Moment) -> Result<(), HubFault>
         requires { TellFits tell }
         ensures told { (h : hubs.Hub) → stands self.old h → Tells h key.now tell now result (stands self.new) }
+        ensures fault { IfErr result IsOfKey }
         ensures seats { Stay (seats self.old) (seats self.new) }
         ensures kept { keep_faults self.new ≡ keep_faults self.old };
 

@@ -13,7 +13,8 @@ mod sessions;
 mod starting;
 mod sweeping;
 
-pub use fault::{HubFault, StartFault};
+pub use fault::{HubFault, StartFault, is_no_memory};
 pub use hub::{Hub, Swept};
 pub use jobs::{Job, JobList, JobSink};
 pub use plain::PlainHub;
+pub use rows::{closes, key_of};

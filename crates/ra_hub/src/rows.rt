@@ -21,7 +21,7 @@ use ra_session::Session;
 use std::collections::BTreeMap;
 
 /// The session that a request is about.
-pub(crate) fn key_of(ask: &Request) -> Key
+pub fn key_of(ask: &Request) -> Key
     ensures { result ≡ admission.key_of ask.now }
 {
     Key {
@@ -41,7 +41,7 @@ fn is_open(state: RowState) -> bool
 }
 
 /// Whether a close with this epoch closes the row.
-fn closes(row: Option<Row>, epoch: u64) -> bool
+pub fn closes(row: Option<Row>, epoch: u64) -> bool
     ensures { result ≡ hubs.closes epoch row }
 {
     match row {

@@ -1,14 +1,14 @@
 //! Calls of one session of a map.
-ghost use Rattle.std.specs.Prelude.{◌≡◌, IfErr, OnErr, OnOk};
+ghost use Rattle.std.specs.Prelude.{◌≡◌, IfOk, IfErr, OnErr, OnOk};
+ghost use Rattle.ra_session.specs.Carried.{AttachCarries, TurnCarries};
 ghost use Rattle.ra_session.specs.SessionCalls as calls;
 ghost use Rattle.ra_session.specs.SessionRefusals.{attach_refusal};
 ghost use Rattle.ra_session.specs.SessionStates.{SessionBecomes};
-ghost use Rattle.ra_session.specs.View.{told, tell_refusal, TellFits};
-ghost use Rattle.ra_hub.specs.Standing as standing;
+ghost use Rattle.ra_session.specs.View.{told, tell_refusal, TellFits, TurnFits};
 ghost use Rattle.ra_hub.specs.declared.fault.HubFault.TheVariants as faults;
 ghost use Rattle.ra_hub.specs.Standing.{AtSession, Called, Turned, Ticked, AddsSession, RemovesSession, SameSessions};
 
-use crate::fault::HubFault;
+use crate::fault::{HubFault, is_no_memory};
 use ra_base::{Cause, Key, Moment, Seat};
 use ra_session::{Role, Session, SessionFault, Tell, Turn};
 use std::alloc::Global;
@@ -50,8 +50,9 @@ pub(crate) fn attach_at(
     chunk: &[u8],
     now: Moment,
 ) -> Result<(), SessionFault>
-    ensures { AtSession sessions.old sessions.new seat.now.key
+    ensures attached { AtSession sessions.old sessions.new seat.now.key
         (Called (attach_refusal seat.now.epoch) (calls.attach seat.now.epoch chunk.now now) result) }
+    ensures carries { IfErr result AttachCarries }
 {
     match sessions.get_mut(&seat.key) {
         Some(session) => session.attach(alloc, seat.epoch, chunk, now),
@@ -67,7 +68,9 @@ pub(crate) fn turn_at(
     piece: &[u8],
     now: Moment,
 ) -> Result<Turn, SessionFault>
-    ensures { AtSession sessions.old sessions.new seat.now.key (Turned seat.now.epoch piece.now now result) }
+    ensures turned { AtSession sessions.old sessions.new seat.now.key (Turned seat.now.epoch piece.now now result) }
+    ensures fits { IfOk result TurnFits }
+    ensures carries { IfErr result TurnCarries }
 {
     match sessions.get_mut(&seat.key) {
         Some(session) => session.turn(alloc, seat.epoch, piece, now),
@@ -107,24 +110,6 @@ pub(crate) fn end_at(sessions: &mut BTreeMap<Key, Session>, key: &Key, cause: Ca
 {
     if let Some(session) = sessions.get_mut(key) {
         session.end(cause);
-    }
-}
-
-/// Whether memory ran out.
-fn is_no_memory(fault: &SessionFault) -> bool
-    ensures { result ≡ standing.is_no_memory fault.now }
-{
-    match fault {
-        SessionFault::NoMemory => true,
-        SessionFault::Ended { .. }
-        | SessionFault::Stale { .. }
-        | SessionFault::NoLink
-        | SessionFault::TooLong { .. }
-        | SessionFault::BadIpc { .. }
-        | SessionFault::TooLarge { .. }
-        | SessionFault::IdsSpent
-        | SessionFault::NoSuchCall { .. }
-        | SessionFault::WrongKind => false,
     }
 }
 

@@ -1,6 +1,6 @@
 //! A hub that begins: empty, or from the records of a keeper.
-ghost use Rattle.std.specs.Prelude.{◌≡◌, ◌≤◌, [], List, Some, IfOk, IfErr};
-ghost use Rattle.ra_keep.specs.declared.record.Record.{Record};
+ghost use Rattle.std.specs.Prelude.{◌≡◌, [], option_map, IfOk, IfErr};
+ghost use Rattle.ra_keep.specs.Causes.{TellsOnly, next_count};
 ghost use Rattle.ra_registry.specs.KeptRecords.{IsKept};
 ghost use Rattle.ra_hub.specs.Hubs.{started};
 
@@ -23,11 +23,12 @@ impl<R: Keeper + Drop> PlainHub<R> {
         long_grace: u64,
         short_grace: u64,
     ) -> Result<PlainHub<R>, StartFault<R>>
-        ensures started { IfOk result (λ hub. Starts long_grace short_grace (R.told keeper) hub) }
-        ensures told { IfOk result (λ hub. R.told (keeper_of hub) ≡ R.told keeper) }
-        ensures kept { IfOk result (λ hub. (list : List Record) → R.told keeper ≡ Some list → IsKept (R.told (keeper_of hub)) (registry_of hub)) }
-        ensures later { IfOk result (λ hub. R.faults keeper ≤ R.faults (keeper_of hub)) }
-        ensures not { IfErr result (λ fault. StartsNot R.told R.faults keeper fault) }
+        ensures started { IfOk result (λ hub. Starts long_grace short_grace (R.told (keeper_of hub)) hub) }
+        ensures told { IfOk result (λ hub. TellsOnly (R.told keeper) (R.told (keeper_of hub))) }
+        ensures kept { IfOk result (λ hub. IsKept (R.told (keeper_of hub)) (registry_of hub)) }
+        ensures called { IfOk result (λ hub. R.calls (keeper_of hub) ≡ option_map next_count (R.calls keeper)) }
+        ensures faults { IfOk result (λ hub. R.faults (keeper_of hub) ≡ R.faults keeper) }
+        ensures not { IfErr result (λ fault. StartsNot R.told R.calls R.faults keeper fault) }
     {
         let records = match keeper.all(alloc) {
             Ok(records) => records,

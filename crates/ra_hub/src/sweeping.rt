@@ -1,6 +1,9 @@
 //! A tick over all sessions of a map: those whose grace is over end, and the others see the moment.
 ghost use Rattle.std.specs.Prelude.{◌≡◌, not};
+ghost use Rattle.std.specs.BTreeMap.{get};
+ghost use Rattle.ra_base.specs.Keys.{key_cmp};
 ghost use Rattle.ra_hub.specs.HubSeats.{one_if};
+ghost use Rattle.ra_hub.specs.Sweeping as spec;
 ghost use Rattle.ra_hub.specs.Sweeping.{EndsAll, TicksAll};
 ghost use Rattle.ra_hub.specs.Sweeps.{AreDistinct};
 
@@ -18,6 +21,23 @@ pub(crate) fn end_all(sessions: &mut BTreeMap<Key, Session>, entries: &[Past])
     for entry in entries {
         end_at(sessions, &entry.key, Cause::GraceOver);
     }
+}
+
+/// Whether the session of this key is there and has not ended.
+fn is_going(sessions: &BTreeMap<Key, Session>, key: &Key) -> bool
+    ensures { result ≡ spec.is_going (get key_cmp sessions.now key.now) }
+{
+    match sessions.get(key) {
+        Some(session) => session.cause().is_none(),
+        None => false,
+    }
+}
+
+/// The keys of the sessions that have ended go, and the others stay in their order. It takes no memory.
+pub(crate) fn forget_ended(keys: &mut Vec<Key>, sessions: &BTreeMap<Key, Session>)
+    ensures { keys.new.items ≡ spec.going_keys keys.old.items sessions.now }
+{
+    keys.retain(|key| is_going(sessions, key));
 }
 
 /// How many sessions found no memory, of one.

@@ -5,8 +5,8 @@ use Rattle.ra_hub.specs.Standing.{Called}
 use Rattle.ra_hub.proofs.Calling.{session_called, called}
 use Rattle.ra_hub.proofs.sessions.attach_at.Goals as goal
 
-pub returns-in-Some : goal.returns-in-Some
-returns-in-Some c =
+pub returns-in-Some-clause-attached : goal.returns-in-Some-clause-attached
+returns-in-Some-clause-attached c =
     let written = c.get_mut.follows.holds c.attach.new.self in
     session_called c.args.sessions.now (c.get_mut.follows.lender c.attach.new.self) c.args.seat.now.key c.in-Some.session.now c.attach.new.self
     (Called (attach_refusal c.args.seat.now.epoch) (attach c.args.seat.now.epoch c.args.chunk.now c.args.now) c.attach.result)
