@@ -9,3 +9,6 @@ pub mod StepRows
 pub mod CallRows
 mod Rows
 pub mod Sessions
+pub mod Alike
+pub mod RunLemmas
+pub mod RequestLemmas

@@ -1,20 +1,22 @@
 -- What comes of a look at unread bytes.
-use Rattle.std.proofs.Common.{◌≡◌, ℕ, true, false, Option, Some, None, List, refl, ap, sym, ◌∙◌, subst}
+use Rattle.std.proofs.Common.{◌≡◌, ℕ, Bool, true, false, cond, eqb, drop, rules, Option, Some, None, List, refl, ap, sym, ◌∙◌, subst}
 use Rattle.std.specs.Prelude.{Result, Ok, Err, IfOk}
 use Rattle.std.specs.Option.{is_some}
 use Rattle.std.proofs.lemmas.Bool.{cond-true, cond-false, false_from_ne_true, false≢true}
 use Rattle.ra_model.specs.declared.frame.Frame.{Frame}
 use Rattle.ra_model.specs.Frames.{Begins}
+use Rattle.ra_frame.specs.Fronts.{HasFrame}
 use Rattle.ra_model.specs.FrameKinds.{frame_kind}
+use Rattle.ra_model.specs.FrameKinds.FrameKind.{Regular, Control, Disconnect, ReplayRequest, Pause, Resume, Other}
 use Rattle.ra_model.specs.FirstFrame.{first_frame, is_too_long}
-use Rattle.ra_model.proofs.Cuts.{too_long-none}
+use Rattle.ra_model.proofs.Cuts.{too_long-none, found-not_too_long}
 use Rattle.ra_upgrade.specs.AnswerHeads.{AnswerIs}
 use Rattle.ra_sign.specs.Signature.{signature_text}
 use Rattle.ra_dial.specs.declared.handshake.Handled.{Handled}
 use Rattle.ra_dial.specs.declared.handshake.Handled.TheVariants as handled
 use Rattle.ra_dial.specs.Clients.{Settings}
 use Rattle.ra_dial.specs.ShakingStates.{ShakingState}
-use Rattle.ra_dial.specs.Handshakes.{Head, HasHead, Looked, is_open, fails, on_answer, on_frame, on_first, on_frames, on_unread, on_shaking, Came, Handles}
+use Rattle.ra_dial.specs.Handshakes.{Head, HasHead, Looked, is_open, fails, passes, on_answer, on_frame, on_first, on_frames, on_unread, on_shaking, Came, Handles}
 
 -- ---- frames
 
@@ -45,6 +47,29 @@ pub framed : {E : Type 0} (signature : List ℕ → List ℕ) (s new : ShakingSt
 framed signature s new f rest r begins is came =
     subst (λ (l : Looked). IfOk r (λ h. Came s new h l))
     (sym (short_first signature s (begun_not_long s.unread f rest begins) ∙ ap (λ (o : Option (Frame × List ℕ)). on_first signature o s) is)) came
+
+-- a frame that says nothing is passed over
+passes_kind : (signature : List ℕ → List ℕ) (a b c d e f : Bool) (frame : Frame) (rest : List ℕ) (s : ShakingState) → b ≡ false → c ≡ false → e ≡ false
+    → on_frame signature (cond a Regular (cond b Control (cond c Disconnect (cond d ReplayRequest (cond e Pause (cond f Resume Other)))))) frame rest s ≡ passes rest s
+passes_kind signature true b c d e f frame rest s nb nc ne = refl
+passes_kind signature false true c d e f frame rest s nb nc ne = absurd cc
+passes_kind signature false false true d e f frame rest s nb nc ne = absurd cc
+passes_kind signature false false false true e f frame rest s nb nc ne = refl
+passes_kind signature false false false false true f frame rest s nb nc ne = absurd cc
+passes_kind signature false false false false false true frame rest s nb nc ne = refl
+passes_kind signature false false false false false false frame rest s nb nc ne = refl
+
+not_eq : (a b : ℕ) → (a ≡ b → ⊥) → eqb a b ≡ false
+not_eq a b ne = search (rules, ne)
+
+pub passed : (signature : List ℕ → List ℕ) (s new : ShakingState) (h : Handled) (kind size : ℕ) → HasFrame s.unread kind size
+    → (kind ≡ 2 → ⊥) → (kind ≡ 5 → ⊥) → (kind ≡ 7 → ⊥) → Came s new h (passes (drop size s.unread) s) → Came s new h (on_frames signature s)
+passed signature s new h kind size has nb nc ne came =
+    let f : Frame = has.frame in
+    subst (λ (l : Looked). Came s new h l)
+    (sym (short_first signature s (found-not_too_long s.unread (f, drop size s.unread) has.first) ∙ ap (λ (o : Option (Frame × List ℕ)). on_first signature o s) has.first
+    ∙ passes_kind signature (eqb f.kind 1) (eqb f.kind 2) (eqb f.kind 5) (eqb f.kind 6) (eqb f.kind 7) (eqb f.kind 8) f (drop size s.unread) s
+    (not_eq f.kind 2 (λ is. nb (sym has.kind_is ∙ is))) (not_eq f.kind 5 (λ is. nc (sym has.kind_is ∙ is))) (not_eq f.kind 7 (λ is. ne (sym has.kind_is ∙ is))))) came
 
 -- ---- an answer, or a frame
 

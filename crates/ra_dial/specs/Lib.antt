@@ -12,3 +12,5 @@ pub mod Table
 pub mod DialerStates
 pub mod View
 pub mod Runs
+pub mod Budget
+pub mod Requests

@@ -1,5 +1,5 @@
 -- What a dialer goes through: its events and its calls, one after the other.
-use Rattle.std.specs.Prelude.{◌≡◌, ℕ, Bool, true, false, List, [], ◌∷◌, None}
+use Rattle.std.specs.Prelude.{◌≡◌, ℕ, Bool, true, false, List, [], ◌∷◌, ◌++◌, None, Some}
 use Rattle.ra_values.specs.Tree.{Tree}
 use Rattle.ra_session.specs.SessionCalls as calls
 use Rattle.ra_dial.specs.declared.values.DialEvent.{DialEvent}
@@ -7,6 +7,10 @@ use Rattle.ra_dial.specs.declared.stage.Stage.{Stage}
 use Rattle.ra_dial.specs.declared.stage.Stage.TheVariants as stages
 use Rattle.ra_dial.specs.Handshakes.{Head}
 use Rattle.ra_dial.specs.Dialers.{Dialer}
+use Rattle.std.specs.List.{flat_map}
+use Rattle.ra_ipc.specs.ChannelPairs.{Outcome}
+use Rattle.ra_session.specs.Hearing.{Happening, work, host, call_settled, event_fired}
+use Rattle.ra_dial.specs.Acts.{Act, nothing, quiet, rest_until, connect, drop_link, happened, ends}
 use Rattle.ra_dial.specs.Table.{step, handed_out, framed}
 use Rattle.ra_dial.specs.View.{on_session}
 
@@ -42,6 +46,42 @@ is_over (stages.Calling since) = false
 is_over (stages.Shaking since s) = false
 is_over stages.Attached = false
 is_over (stages.Over end) = true
+
+-- what is told of a move: the act of an event
+abbrev pub acts_by : Move → Dialer → List Act
+acts_by (event head draw e now) d = (step head draw e now d).0 ∷ []
+acts_by (take_out n) d = []
+acts_by take_rest d = []
+acts_by (call channel name arg now) d = []
+acts_by (listen channel name arg now) d = []
+acts_by (cancel id now) d = []
+acts_by (dispose id now) d = []
+acts_by (say body now) d = []
+
+-- the acts of all of them, in order
+abbrev pub acts_of : List Move → Dialer → List Act
+acts_of [] d = []
+acts_of (m ∷ ms) d = acts_by m d ++ acts_of ms (moved m d)
+
+-- the id of a call that ended, and how
+abbrev pub outcome_in : Happening → List (ℕ × Outcome)
+outcome_in (work asked) = []
+outcome_in (host body) = []
+outcome_in (call_settled id outcome) = (id, outcome) ∷ []
+outcome_in (event_fired id body) = []
+
+abbrev pub outcome_by : Act → List (ℕ × Outcome)
+outcome_by nothing = []
+outcome_by quiet = []
+outcome_by (rest_until until) = []
+outcome_by connect = []
+outcome_by drop_link = []
+outcome_by (happened h) = outcome_in h
+outcome_by (ends end) = []
+
+-- how calls ended by what was heard, in order; a cancel tells of its own
+abbrev pub outcomes_of : List Move → Dialer → List (ℕ × Outcome)
+outcomes_of moves d = flat_map outcome_by (acts_of moves d)
 
 -- the session of a dialer that is not over has not ended
 abbrev pub HasSession : Dialer → Type 0

@@ -1,6 +1,7 @@
 //! Attempts: how a dialer waits, and how an attempt begins and fails.
 ghost use Rattle.std.specs.Prelude.{◌≡◌, ◌+◌, ◌-◌, ◌<◌, ◌≤◌, ◌^◌, ℕ, nat_le, nat_lt, IfOk, OnErr};
 ghost use Rattle.ra_dial.specs.Acts.{act_of};
+ghost use Rattle.ra_dial.specs.View.{ActFits};
 ghost use Rattle.ra_dial.specs.Attempts as spec;
 ghost use Rattle.ra_dial.specs.DialerStates.{Steps};
 
@@ -46,7 +47,8 @@ fn has_passed(span: u64, moment: Moment, now: Moment) -> bool
 
 /// A rest until that moment, or the end of the link.
 pub(crate) fn rest_or_drop(drops: bool, until: u64) -> DialAct
-    ensures { act_of result ≡ spec.rest_or_drop drops until }
+    ensures act { act_of result ≡ spec.rest_or_drop drops until }
+    ensures fits { ActFits result }
 {
     if drops {
         DialAct::Drop
@@ -71,7 +73,8 @@ impl Dialer {
     /// The dialer is over. The end is given twice, for a copy takes memory.
     pub(crate) fn finish(&mut self, end: DialEnd, again: DialEnd) -> DialAct
         requires { again ≡ end }
-        ensures { Steps self.old self.new (act_of result) (spec.finishes end) }
+        ensures steps { Steps self.old self.new (act_of result) (spec.finishes end) }
+        ensures fits { ActFits result }
     {
         self.stage = Stage::Over { end };
         DialAct::End { cause: again }
@@ -79,7 +82,8 @@ impl Dialer {
 
     /// An attempt failed: the next wait begins.
     pub(crate) fn fail(&mut self, drops: bool, now: Moment) -> DialAct
-        ensures { Steps self.old self.new (act_of result) (spec.fails drops now) }
+        ensures steps { Steps self.old self.new (act_of result) (spec.fails drops now) }
+        ensures fits { ActFits result }
     {
         self.attempt = self.attempt.saturating_add(1);
         let until = now.millis() + wait_before(self.attempt);
@@ -90,7 +94,8 @@ impl Dialer {
 
     /// Time passes while it rests.
     pub(crate) fn tick_resting(&mut self, until: u64, now: Moment) -> DialAct
-        ensures { Steps self.old self.new (act_of result) (spec.waits_until until now) }
+        ensures steps { Steps self.old self.new (act_of result) (spec.waits_until until now) }
+        ensures fits { ActFits result }
     {
         if is_due(until, now) {
             self.stage = Stage::Calling { since: now };
@@ -102,7 +107,8 @@ impl Dialer {
 
     /// Time passes while it calls or shakes hands.
     pub(crate) fn tick_waiting(&mut self, drops: bool, called: Moment, now: Moment) -> DialAct
-        ensures { Steps self.old self.new (act_of result) (spec.waits_since drops called now) }
+        ensures steps { Steps self.old self.new (act_of result) (spec.waits_since drops called now) }
+        ensures fits { ActFits result }
     {
         if has_passed(PATIENCE, called, now) {
             return self.fail(drops, now);
@@ -122,6 +128,7 @@ impl Dialer {
         ensures steps { IfOk result (λ act. Steps self.old self.new (act_of act) (spec.begins called (E.draw entropy.old 0) (E.draw entropy.old 1))) }
         ensures drawn { (n : ℕ) → E.draw entropy.new n ≡ E.draw entropy.old (n + 2) }
         ensures same { OnErr result (self.new ≡ self.old) }
+        ensures fits { IfOk result ActFits }
     {
         let key = entropy.take();
         let drawn = entropy.take();

@@ -3,6 +3,7 @@ ghost use Rattle.std.specs.Prelude.{◌≡◌, IfOk};
 ghost use Rattle.ra_dial.specs.Clients.{request_of, new_shaking};
 
 use crate::handshake::Shaking;
+use crate::values::copy_shake;
 use ra_base::{Key, Message, NoMemory};
 use ra_shake::{ClientShake, ShakeSettings, made};
 use ra_sign::Keyed;
@@ -29,18 +30,6 @@ impl Model for Client {
     ghost view = { λ c. record { shake = c.shake; sign_key = c.signer; key = c.key; host = c.host; skip_frames = c.skip_frames } };
 
     ghost invariant = { λ c. CanDial (record { shake = c.shake; sign_key = c.signer; key = c.key; host = c.host; skip_frames = c.skip_frames }) };
-}
-
-/// The same settings again.
-fn copy_settings(alloc: Global, settings: &ShakeSettings) -> Result<ShakeSettings, NoMemory>
-    ensures { IfOk result (λ copy. copy ≡ settings.now) }
-{
-    let secret = match &settings.secret {
-        Some(secret) => Some(Message::copy(alloc, secret.as_slice())?),
-        None => None,
-    };
-    let commit = Message::copy(alloc, settings.commit.as_slice())?;
-    Ok(ShakeSettings { secret, commit })
 }
 
 impl Client {
@@ -75,7 +64,7 @@ impl Client {
     {
         let challenge = made(drawn)?;
         let challenge = Message::copy(alloc, challenge.as_text().as_bytes())?;
-        let settings = copy_settings(alloc, &self.shake)?;
+        let settings = copy_shake(alloc, &self.shake)?;
         let shake = ClientShake::new(settings, self.key.kind, challenge);
         Ok(Shaking::new(alloc, key, shake))
     }

@@ -1,7 +1,7 @@
 //! The handshake of one link: bytes come in any pieces, and the server's answer and its frames are looked at one by one.
 //!
 //! When it has taken too long, and what is done where it fails, is not known here.
-ghost use Rattle.std.specs.Prelude.{◌≡◌, ◌≢◌, ◌≤◌, ◌++◌, [], Ok, Some, None, IfOk, OnOk, OnErr, length, drop};
+ghost use Rattle.std.specs.Prelude.{◌≡◌, ◌≢◌, ◌≤◌, ◌++◌, [], true, Ok, Some, None, IfOk, OnOk, OnErr, length, drop};
 ghost use Rattle.std.specs.Vec.{vec_capacity};
 ghost use Rattle.ra_model.specs.Frames.{IsFrame, body_limit, frame_bytes};
 ghost use Rattle.ra_model.specs.FrameKinds.{frame_kind};
@@ -10,20 +10,25 @@ ghost use Rattle.ra_upgrade.specs.declared.answer_head.AnswerFault.TheVariants a
 ghost use Rattle.ra_frame.specs.declared.reader.FrameFault.TheVariants as frame_faults;
 ghost use Rattle.ra_sign.specs.Signature.{signature_text};
 ghost use Rattle.ra_dial.specs.ShortTexts.{IsShortShake};
+ghost use Rattle.ra_dial.specs.Budget.{is_over_budget};
 ghost use Rattle.ra_dial.specs.Handshakes as spec;
 ghost use Rattle.ra_dial.specs.Handshakes.{Came, Handles, Head, fed, in_frame, goes_on, look_of};
 
 use crate::client::Client;
 use ra_base::{Message, NoMemory};
 use ra_frame::{Frame, FrameFault, FrameReader, append, header};
-use ra_shake::{ClientShake, ClientStep};
+use ra_shake::{ClientShake, ClientStep, TEXT_LIMIT};
 use ra_sign::Keyed;
 use ra_upgrade::{AnswerFault, read_answer};
 use std::alloc::Global;
 use std::marker::Model;
 
-/// The type of a control frame.
+/// The types of the frames that count in a handshake.
 const CONTROL: u8 = 2;
+
+const DISCONNECT: u8 = 5;
+
+const PAUSE: u8 = 7;
 
 /// The bytes of a header.
 const HEADER: usize = 13;
@@ -136,11 +141,22 @@ impl Shaking {
         }
     }
 
-    /// Bytes of the link come.
+    /// Whether a header states more than a text of a handshake has, behind the answer.
+    fn is_over_budget(&self) -> bool
+        ensures { result ≡ is_over_budget self.now }
+    {
+        self.key.is_none() && self.rest.is_none() && self.unread.states_above(TEXT_LIMIT)
+    }
+
+    /// Bytes of the link come. None are taken behind a header that states more than a text of a handshake has.
     pub fn feed(&mut self, alloc: Global, piece: &[u8]) -> Result<(), NoMemory>
         ensures ok { OnOk result (self.new ≡ fed piece.now self.old) }
         ensures same { OnErr result (self.new ≡ self.old) }
+        ensures budget { is_over_budget self.old ≡ true → OnOk result ⊥ }
     {
+        if self.is_over_budget() {
+            return Err(NoMemory);
+        }
         if let Some(rest) = &self.rest {
             let longer = joined(alloc, rest.as_slice(), piece)?;
             self.rest = Some(longer);
@@ -260,6 +276,11 @@ impl Shaking {
         ensures came { IfOk result (λ h. Came self.old self.new h (spec.on_frames (signature_text signer.now) self.old)) }
         ensures same { OnErr result (self.new ≡ self.old) }
     {
+        if let Some((kind, len)) = self.unread.ahead() {
+            if kind != CONTROL && kind != DISCONNECT && kind != PAUSE {
+                return Ok(self.pass(alloc, len));
+            }
+        }
         match self.unread.peek(alloc) {
             Ok(Some((frame, len))) => self.on_frame(alloc, signer, &frame, len),
             Ok(None) => Ok(Handled::Waits),
@@ -269,11 +290,15 @@ impl Shaking {
     }
 
     /// Looks at the unread bytes: the server's answer, or one frame. Nothing is looked at while the rest behind the answer waits
-    /// to be handed out.
+    /// to be handed out, nor a frame whose header states more than a text of a handshake has.
     pub fn handle(&mut self, alloc: Global, client: &Client) -> Result<Handled, NoMemory>
         ensures handles { IfOk result (λ h. Handles client.now self.old self.new h) }
         ensures same { OnErr result (self.new ≡ self.old) }
+        ensures budget { is_over_budget self.old ≡ true → OnOk result ⊥ }
     {
+        if self.is_over_budget() {
+            return Err(NoMemory);
+        }
         if let Some(key) = self.key {
             return self.take_answer(alloc, client.skip_frames, key);
         }

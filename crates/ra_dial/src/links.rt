@@ -1,9 +1,11 @@
 //! A dialer on a link: the steps of its handshake, and its attached session.
-ghost use Rattle.std.specs.Prelude.{◌≡◌, ◌≢◌, [], Some, option_map, IfOk, OnOk, OnErr};
+ghost use Rattle.std.specs.Prelude.{◌≡◌, ◌≢◌, [], Some, option_map, IfSome, IfOk, OnOk, OnErr};
+ghost use Rattle.ra_session.specs.Hearing.{HappeningFits};
 ghost use Rattle.ra_session.specs.SessionRefusals.{Refusal, IsRefusal};
 ghost use Rattle.ra_session.specs.View.{happening_of};
 ghost use Rattle.ra_session.specs.declared.values.SessionFault.TheVariants as faults;
 ghost use Rattle.ra_dial.specs.Acts.{act_of};
+ghost use Rattle.ra_dial.specs.View.{ActFits};
 ghost use Rattle.ra_dial.specs.Links as spec;
 ghost use Rattle.ra_dial.specs.DialerStates.{Steps};
 
@@ -38,7 +40,9 @@ fn judged(fault: SessionFault) -> Result<(), NoMemory>
 
 /// What a turn means.
 fn act_after(took: bool, happened: Option<Happened>) -> DialAct
-    ensures { act_of result ≡ spec.act_after took (option_map happening_of happened) }
+    requires fits { IfSome happened (λ h. HappeningFits (happening_of h)) }
+    ensures act { act_of result ≡ spec.act_after took (option_map happening_of happened) }
+    ensures fits { ActFits result }
 {
     match happened {
         None => {
@@ -66,7 +70,8 @@ fn act_after(took: bool, happened: Option<Happened>) -> DialAct
 impl Dialer {
     /// The link of the attached session is lost.
     pub(crate) fn lose(&mut self, drops: bool, now: Moment) -> DialAct
-        ensures { Steps self.old self.new (act_of result) (spec.loses drops now) }
+        ensures steps { Steps self.old self.new (act_of result) (spec.loses drops now) }
+        ensures fits { ActFits result }
     {
         let epoch = self.session.epoch();
         self.session.lose(epoch);
@@ -88,6 +93,7 @@ impl Dialer {
     ) -> Result<DialAct, NoMemory>
         ensures steps { IfOk result (λ act. Steps self.old self.new (act_of act) (spec.attaches chunk.now now)) }
         ensures same { OnErr result (self.new ≡ self.old) }
+        ensures fits { IfOk result ActFits }
     {
         let epoch = self.session.epoch().saturating_add(1);
         if let Err(fault) = self.session.attach(alloc, epoch, chunk, now) {
@@ -103,6 +109,7 @@ impl Dialer {
     pub(crate) fn feed_session(&mut self, piece: &[u8], now: Moment) -> Result<DialAct, NoMemory>
         ensures steps { IfOk result (λ act. Steps self.old self.new (act_of act) (spec.feeds_attached piece.now now)) }
         ensures same { OnErr result (self.new ≡ self.old) }
+        ensures fits { IfOk result ActFits }
     {
         let epoch = self.session.epoch();
         if let Err(fault) = self.session.feed(epoch, piece, now) {
@@ -116,6 +123,7 @@ impl Dialer {
     pub(crate) fn turn(&mut self, alloc: Global, now: Moment) -> Result<DialAct, NoMemory>
         ensures steps { IfOk result (λ act. Steps self.old self.new (act_of act) (spec.turns now)) }
         ensures same { OnErr result (self.new ≡ self.old) }
+        ensures fits { IfOk result ActFits }
     {
         self.outgoing.reserve(1)?;
         let epoch = self.session.epoch();
@@ -146,6 +154,7 @@ impl Dialer {
         ensures judged { OnOk result (fault ≢ faults.NoMemory) }
         ensures same { OnErr result (self.new ≡ self.old) }
         ensures memory { OnErr result (fault ≡ faults.NoMemory) }
+        ensures fits { IfOk result ActFits }
     {
         match fault {
             SessionFault::BadIpc { .. } => {
@@ -168,6 +177,7 @@ impl Dialer {
     pub(crate) fn tick_session(&mut self, alloc: Global, now: Moment) -> Result<DialAct, NoMemory>
         ensures steps { IfOk result (λ act. Steps self.old self.new (act_of act) (spec.ticks now)) }
         ensures same { OnErr result (self.new ≡ self.old) }
+        ensures fits { IfOk result ActFits }
     {
         match self.session.tick(alloc, now) {
             Ok(ticked) => {
@@ -189,6 +199,7 @@ impl Dialer {
     pub(crate) fn leave(&mut self) -> Result<DialAct, NoMemory>
         ensures steps { IfOk result (λ act. Steps self.old self.new (act_of act) spec.leaves) }
         ensures same { OnErr result (self.new ≡ self.old) }
+        ensures fits { IfOk result ActFits }
     {
         self.outgoing.reserve(1)?;
         match self.session.leave() {

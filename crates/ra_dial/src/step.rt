@@ -1,6 +1,8 @@
 //! A dialer takes an event.
-ghost use Rattle.std.specs.Prelude.{◌≡◌, ◌+◌, ℕ, IfOk, OnErr};
+ghost use Rattle.std.specs.Prelude.{◌≡◌, ◌+◌, ℕ, true, false, IfOk, OnOk, OnErr};
 ghost use Rattle.ra_dial.specs.Acts.{act_of};
+ghost use Rattle.ra_dial.specs.View.{ActFits};
+ghost use Rattle.ra_dial.specs.Budget.{is_spent, takes_bytes};
 ghost use Rattle.ra_dial.specs.Table as spec;
 ghost use Rattle.ra_dial.specs.DialerStates.{FollowsTable};
 
@@ -39,6 +41,8 @@ impl Dialer {
         ensures steps { IfOk result (λ act. FollowsTable (spec.is_frame event) self.old self.new (act_of act) (λ head d. spec.by_event head (E.draw entropy.old) event now d)) }
         ensures drawn { (n : ℕ) → E.draw entropy.new n ≡ E.draw entropy.old (n + spec.draws_at event self.old.stage) }
         ensures same { OnErr result (self.new ≡ self.old) }
+        ensures budget { takes_bytes event ≡ true → is_spent self.old.stage ≡ true → OnOk result ⊥ }
+        ensures fits { IfOk result ActFits }
     {
         match event {
             DialEvent::Tick => self.on_tick(alloc, now),
@@ -62,6 +66,9 @@ impl Dialer {
         ensures steps { IfOk result (λ act. FollowsTable (spec.looks_by event now self.old.stage self.old.lost) self.old self.new (act_of act) (λ head d. spec.on_event head (E.draw entropy.old) event now d)) }
         ensures drawn { (n : ℕ) → E.draw entropy.new n ≡ E.draw entropy.old (n + spec.draws_by event now self.old.stage self.old.lost) }
         ensures same { OnErr result (self.new ≡ self.old) }
+        ensures budget { spec.is_late event self.old.stage self.old.lost now ≡ false → takes_bytes event ≡ true
+            → is_spent self.old.stage ≡ true → OnOk result ⊥ }
+        ensures fits { IfOk result ActFits }
     {
         if is_late(&event, &self.stage, self.lost, now) {
             let lost = self.lost.millis();
@@ -75,7 +82,8 @@ impl Dialer {
     }
 
     /// Takes an event, and tells what is to be done: what the table says. A link that is there takes two draws, also where memory
-    /// then runs out. Any other want of memory leaves all as it was.
+    /// then runs out. Any other want of memory leaves all as it was. While it shakes hands, a frame whose header states more than a text
+    /// of a handshake has is such a want, and so are bytes that come behind that header, until it is time for another attempt.
     pub fn step<E: Entropy>(
         &mut self,
         alloc: Global,
@@ -86,6 +94,9 @@ impl Dialer {
         ensures steps { IfOk result (λ act. FollowsTable (spec.looks_by event now self.old.stage self.old.lost) self.old self.new (act_of act) (λ head d. spec.step head (E.draw entropy.old) event now d)) }
         ensures drawn { (n : ℕ) → E.draw entropy.new n ≡ E.draw entropy.old (n + spec.draws_by event now self.old.stage self.old.lost) }
         ensures same { OnErr result (self.new ≡ self.old) }
+        ensures budget { spec.is_late event self.old.stage self.old.lost now ≡ false → takes_bytes event ≡ true
+            → is_spent self.old.stage ≡ true → OnOk result ⊥ }
+        ensures fits { IfOk result ActFits }
     {
         if let Stage::Over { end } = &self.stage {
             return Ok(DialAct::End {

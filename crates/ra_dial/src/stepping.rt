@@ -1,6 +1,8 @@
 //! What a dialer does at each event, by how far it is.
-ghost use Rattle.std.specs.Prelude.{◌≡◌, ◌+◌, ℕ, true, IfOk, OnErr};
+ghost use Rattle.std.specs.Prelude.{◌≡◌, ◌+◌, ℕ, true, IfOk, OnOk, OnErr};
 ghost use Rattle.ra_dial.specs.Acts.{act_of};
+ghost use Rattle.ra_dial.specs.View.{ActFits};
+ghost use Rattle.ra_dial.specs.Budget.{is_spent};
 ghost use Rattle.ra_dial.specs.Table as spec;
 ghost use Rattle.ra_dial.specs.DialerStates.{Steps, StepsByHead};
 
@@ -17,6 +19,7 @@ impl Dialer {
     pub(crate) fn on_tick(&mut self, alloc: Global, now: Moment) -> Result<DialAct, NoMemory>
         ensures steps { IfOk result (λ act. Steps self.old self.new (act_of act) (λ d. spec.on_tick d.stage now d)) }
         ensures same { OnErr result (self.new ≡ self.old) }
+        ensures fits { IfOk result ActFits }
     {
         match &self.stage {
             Stage::Resting { until } => {
@@ -45,6 +48,7 @@ impl Dialer {
         ensures steps { IfOk result (λ act. Steps self.old self.new (act_of act) (λ d. spec.on_linked d.stage (E.draw entropy.old) d)) }
         ensures drawn { (n : ℕ) → E.draw entropy.new n ≡ E.draw entropy.old (n + spec.draws_when_linked self.old.stage) }
         ensures same { OnErr result (self.new ≡ self.old) }
+        ensures fits { IfOk result ActFits }
     {
         match &self.stage {
             Stage::Calling { since } => {
@@ -58,7 +62,8 @@ impl Dialer {
 
     /// There is no link to be had.
     pub(crate) fn on_no_link(&mut self, now: Moment) -> DialAct
-        ensures { Steps self.old self.new (act_of result) (λ d. spec.on_no_link d.stage now d) }
+        ensures steps { Steps self.old self.new (act_of result) (λ d. spec.on_no_link d.stage now d) }
+        ensures fits { ActFits result }
     {
         match &self.stage {
             Stage::Calling { .. } => self.fail(false, now),
@@ -76,6 +81,8 @@ impl Dialer {
     ) -> Result<DialAct, NoMemory>
         ensures steps { IfOk result (λ act. Steps self.old self.new (act_of act) (λ d. spec.on_piece d.stage piece.now now d)) }
         ensures same { OnErr result (self.new ≡ self.old) }
+        ensures budget { is_spent self.old.stage ≡ true → OnOk result ⊥ }
+        ensures fits { IfOk result ActFits }
     {
         match &mut self.stage {
             Stage::Shaking { shaking, .. } => {
@@ -91,7 +98,8 @@ impl Dialer {
 
     /// The link is lost.
     pub(crate) fn on_link_lost(&mut self, now: Moment) -> DialAct
-        ensures { Steps self.old self.new (act_of result) (λ d. spec.on_link_lost d.stage now d) }
+        ensures steps { Steps self.old self.new (act_of result) (λ d. spec.on_link_lost d.stage now d) }
+        ensures fits { ActFits result }
     {
         match &self.stage {
             Stage::Shaking { .. } => self.fail(false, now),
@@ -106,6 +114,7 @@ impl Dialer {
     pub(crate) fn on_stop(&mut self) -> Result<DialAct, NoMemory>
         ensures steps { IfOk result (λ act. Steps self.old self.new (act_of act) (λ d. spec.on_stop d.stage d)) }
         ensures same { OnErr result (self.new ≡ self.old) }
+        ensures fits { IfOk result ActFits }
     {
         match &self.stage {
             Stage::Attached => self.leave(),
@@ -121,6 +130,8 @@ impl Dialer {
         requires { spec.is_shaking self.old.stage ≡ true }
         ensures steps { IfOk result (λ act. StepsByHead self.old self.new (act_of act) (λ head d. spec.on_frame d.stage head now d)) }
         ensures same { OnErr result (self.new ≡ self.old) }
+        ensures budget { is_spent self.old.stage ≡ true → OnOk result ⊥ }
+        ensures fits { IfOk result ActFits }
     {
         self.outgoing.reserve(2)?;
         let Stage::Shaking { shaking, .. } = &mut self.stage else {
@@ -149,6 +160,8 @@ impl Dialer {
     pub(crate) fn on_frame(&mut self, alloc: Global, now: Moment) -> Result<DialAct, NoMemory>
         ensures steps { IfOk result (λ act. StepsByHead self.old self.new (act_of act) (λ head d. spec.on_frame d.stage head now d)) }
         ensures same { OnErr result (self.new ≡ self.old) }
+        ensures budget { is_spent self.old.stage ≡ true → OnOk result ⊥ }
+        ensures fits { IfOk result ActFits }
     {
         match &self.stage {
             Stage::Shaking { .. } => self.look(alloc, now),

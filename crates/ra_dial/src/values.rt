@@ -24,6 +24,37 @@ pub struct DialSettings {
     pub context: Value,
 }
 
+impl DialSettings {
+    /// The same settings again.
+    pub fn copy(&self, alloc: Global) -> Result<DialSettings, NoMemory>
+        ensures { IfOk result (λ copy. copy ≡ self.now) }
+    {
+        let Ok(context) = self.context.copy(alloc) else {
+            return Err(NoMemory);
+        };
+        Ok(DialSettings {
+            shake: copy_shake(alloc, &self.shake)?,
+            sign_key: Message::copy(alloc, self.sign_key.as_slice())?,
+            key: self.key.same(),
+            host: Message::copy(alloc, self.host.as_slice())?,
+            skip_frames: self.skip_frames,
+            context,
+        })
+    }
+}
+
+/// The same settings of a handshake again.
+pub(crate) fn copy_shake(alloc: Global, settings: &ShakeSettings) -> Result<ShakeSettings, NoMemory>
+    ensures { IfOk result (λ copy. copy ≡ settings.now) }
+{
+    let secret = match &settings.secret {
+        Some(secret) => Some(Message::copy(alloc, secret.as_slice())?),
+        None => None,
+    };
+    let commit = Message::copy(alloc, settings.commit.as_slice())?;
+    Ok(ShakeSettings { secret, commit })
+}
+
 /// What happens to a dialer.
 #[derive(Debug, Drop)]
 pub enum DialEvent {

@@ -15,13 +15,13 @@ returns-in-GoesOn-clause-steps c =
 pub returns-in-Fails-clause-steps : goal.returns-in-Fails-clause-steps
 returns-in-Fails-clause-steps c =
     let handles = rw c.in-Fails.is at c.in_ok-handle.ensures.handles in
-    let failed = rw c.in_ok-reserve.ensures.bytes at c.fail.ensures in
+    let failed = rw c.in_ok-reserve.ensures.bytes at c.fail.ensures.steps in
     rw (← c.self.view_is) (look_fails _ _ _ c.in-Shaking.since _ c.handle.new.self c.args.now c.in-Shaking.is handles failed)
 
 pub returns-in_ok-again-in-Refuses-clause-steps : goal.returns-in_ok-again-in-Refuses-clause-steps
 returns-in_ok-again-in-Refuses-clause-steps c =
     let handles = rw c.in-Refuses.is at c.in_ok-handle.ensures.handles in
-    let finished = rw c.in_ok-reserve.ensures.bytes at c.finish.ensures in
+    let finished = rw c.in_ok-reserve.ensures.bytes at c.finish.ensures.steps in
     rw (← c.self.view_is) (look_refuses _ _ _ c.in-Shaking.since _ c.handle.new.self c.args.now c.in-Refuses.reason c.in-Shaking.is handles finished)
 
 pub returns-in-Accepts-clause-steps : goal.returns-in-Accepts-clause-steps

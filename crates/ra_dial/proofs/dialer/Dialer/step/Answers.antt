@@ -9,4 +9,6 @@ returns g c = record {
   steps = rw (← c.self.view_is) (not_over _ _ _ _ c.args.event c.args.now _ c.in_default.not-Over (rw (← c.self.view_is) at c.on_event.ensures.steps));
   drawn = c.on_event.ensures.drawn;
   same = c.on_event.ensures.same;
+  budget = c.on_event.ensures.budget;
+  fits = c.on_event.ensures.fits;
 }

@@ -9,7 +9,7 @@ returns-in-Some-clause-steps c =
     let becomes = rw c.epoch-epoch.ensures at c.in-Ok.ensures.leaves in
     let answered = rw c.epoch-epoch.ensures at c.in-Ok.ensures.answered in
     let allowed = rw c.epoch-epoch.ensures at c.in-Ok.ensures.refused in
-    let finished = rw (c.put.ensures.bytes, c.in_ok-reserve.ensures.bytes) at c.finish.ensures in
+    let finished = rw (c.put.ensures.bytes, c.in_ok-reserve.ensures.bytes) at c.finish.ensures.steps in
     rw (← c.self.view_is) (turned _ _ c.turn.new.self _ (turn_of c.in-Ok.turn) (Some c.in-Some.cause) c.args.now c.in-Some.is becomes answered allowed finished)
 
 pub returns-in-None-clause-steps : goal.returns-in-None-clause-steps
@@ -17,7 +17,7 @@ returns-in-None-clause-steps c =
     let becomes = rw c.epoch-epoch.ensures at c.in-Ok.ensures.leaves in
     let answered = rw c.epoch-epoch.ensures at c.in-Ok.ensures.answered in
     let allowed = rw c.epoch-epoch.ensures at c.in-Ok.ensures.refused in
-    rw (← c.self.view_is, c.act_after.ensures, c.put.ensures.bytes, c.in_ok-reserve.ensures.bytes)
+    rw (← c.self.view_is, c.act_after.ensures.act, c.put.ensures.bytes, c.in_ok-reserve.ensures.bytes)
     (turned _ _ c.turn.new.self _ (turn_of c.in-Ok.turn) None c.args.now c.in-None.is becomes answered allowed (told _ _))
 
 pub returns-in-Err-clause-steps : goal.returns-in-Err-clause-steps
