@@ -1,17 +1,17 @@
 -- Where the pieces of a link came from, a piece later.
-use Rattle.std.proofs.Common.{◌≡◌, ℕ, ◌<◌, ◌≤◌, Bool, true, false, not, Option, Some, None, List, [], ◌∷◌, ◌++◌, length, take, drop, inl, inr, refl, sym, ap, subst, ◌∙◌, arith, append_assoc, append-nil}
+use Rattle.std.proofs.Common.{◌≡◌, ℕ, ◌<◌, Bool, true, false, not, Option, Some, None, List, [], ◌∷◌, ◌++◌, length, take, drop, inl, inr, refl, sym, ap, subst, ◌∙◌, arith, append_assoc, append-nil}
 use Rattle.std.specs.Prelude.{◌⊎◌, ◌&&◌, nat_lt}
-use Rattle.std.proofs.lemmas.List.{take_all, length-append, length-take-le, take-append-drop}
+use Rattle.std.proofs.lemmas.List.{take_all, length-take-le, take-append-drop}
 use Rattle.std.proofs.lemmas.Bool.{ltb-true, ltb-false, le-ltb}
 use Rattle.ra_items.specs.Heads.{Head}
 use Rattle.ra_ports.specs.Links.{Incoming, Takes}
 use Rattle.ra_upgrade.specs.declared.request_head.HeadFault.{HeadFault}
 use Rattle.ra_upgrade.specs.declared.request_head.Upgrade.{Upgrade}
 use Rattle.ra_link_core.specs.LinkRuns.{Piece, asks_framing, with_piece}
-use Rattle.ra_link.specs.Pieces.{bytes_of, counted, is_framed, IsFrontOf, ComeUnframed, ComeFramed, ComeBy, Come}
-use Rattle.ra_link.specs.Served.{FramesBy, UnableBy}
+use Rattle.ra_link.specs.Pieces.{bytes_of, counted, is_framed, IsFrontOf, ComeUnframed, GoesFramed, ComeFramed, ComeBy, Come}
+use Rattle.ra_link.specs.Served.{FramesBy, StartsFramed, UnableBy}
 use Rattle.ra_link.specs.declared.ends.LinkEnd.{LinkEnd}
-use Rattle.ra_link_core.proofs.CutLemmas.{with_by, still_judged, with_behind, behind_counts}
+use Rattle.ra_link_core.proofs.CutLemmas.{with_by, still_judged, behind_counts}
 
 -- ---- lists of pieces
 
@@ -132,17 +132,18 @@ starts_told old new is text told = (text, refl, is ∙ told)
 abbrev no_pieces : List Piece
 no_pieces = []
 
-starts_by : (was now : Incoming) (front : List ℕ) (unable : Type 0) → unable ⊎ (was.ended ≡ false → front ≡ [] → now.left ≡ was.payload)
-    → ((no_pieces ≡ no_pieces) × unable) ⊎ (was.ended ≡ false → front ≡ [] → Takes was.payload now.left [])
-starts_by was now front unable (inl x) = inl (refl, x)
-starts_by was now front unable (inr x) = inr (λ going nothing. starts_told was.payload now.left (x going nothing))
+starts_by : (was now : Incoming) (front : List ℕ) (sent : ℕ) (unable : Type 0) → (unable × (now.framed ≡ was.framed)) ⊎ StartsFramed front sent was now
+    → ((no_pieces ≡ no_pieces) × unable × (now.framed ≡ was.framed)) ⊎ GoesFramed front sent was now []
+starts_by was now front sent unable (inl x) = inl (refl, x.0, x.1)
+starts_by was now front sent unable (inr x) =
+    inr (record { handed = x.handed; taken = λ going payload is. starts_told (Some (front ++ payload)) now.left (x.payload going payload is) })
 
-ends_there : (head : Head Upgrade HeadFault) (ps : List Piece) (p : Piece) (was then mid : Incoming) (now : Incoming) (unable : Type 0)
+ends_there : (head : Head Upgrade HeadFault) (sent : List Piece → ℕ) (ps : List Piece) (p : Piece) (was then mid : Incoming) (now : Incoming) (unable : Type 0)
     → is_framed head (counted head [] ps) ≡ false → is_framed head (counted head [] (ps ++ p ∷ [])) ≡ true → ComeUnframed head ps was then
     → Takes then.left mid.left p.bytes
-    → (unable ⊎ (was.ended ≡ false → drop head.size (counted head [] ps ++ p.bytes) ≡ [] → now.left ≡ was.payload))
-    → ComeFramed head (ps ++ p ∷ []) was now unable
-ends_there head ps p was then mid now unable before after u took starts =
+    → (unable × (now.framed ≡ was.framed)) ⊎ StartsFramed (drop head.size (counted head [] ps ++ p.bytes)) (sent (ps ++ p ∷ [])) was now
+    → ComeFramed head sent (ps ++ p ∷ []) was now unable
+ends_there head sent ps p was then mid now unable before after u took starts =
     let text = counted head [] ps in
     let raw = text ++ p.bytes in
     let first = ps ++ p ∷ [] in
@@ -161,13 +162,13 @@ ends_there head ps p was then mid now unable before after u took starts =
       size = ap length counts ∙ e.size;
       text = sym (append-nil (counted head [] first));
       taken = taken;
-      payload = starts_by was now (drop head.size raw) unable starts;
+      goes = starts_by was now (drop head.size raw) (sent first) unable starts;
     }
 
-goes_on_framed : (head : Head Upgrade HeadFault) (ps : List Piece) (p : Piece) (was then mid now : Incoming) (unable : Type 0)
-    → is_framed head (counted head [] ps) ≡ true → ComeFramed head ps was then ⊥ → Takes then.left mid.left p.bytes → now ≡ mid
-    → ComeFramed head (ps ++ p ∷ []) was now unable
-goes_on_framed head ps p was then mid now unable before f took same = record {
+goes_on_framed : (head : Head Upgrade HeadFault) (sent : List Piece → ℕ) (ps : List Piece) (p : Piece) (was then mid now : Incoming) (unable : Type 0)
+    → is_framed head (counted head [] ps) ≡ true → ComeFramed head sent ps was then ⊥ → Takes then.left mid.left p.bytes → mid.framed ≡ then.framed → now ≡ mid
+    → ComeFramed head sent (ps ++ p ∷ []) was now unable
+goes_on_framed head sent ps p was then mid now unable before f took stays same = record {
   first = f.first;
   behind = f.behind ++ p ∷ [];
   parts = ap (λ (l : List Piece). l ++ p ∷ []) f.parts ∙ append_assoc f.first f.behind (p ∷ []);
@@ -179,21 +180,24 @@ goes_on_framed head ps p was then mid now unable before f took same = record {
       ∙ ap (λ (l : List ℕ). l ++ p.bytes) f.text ∙ append_assoc (counted head [] f.first) (bytes_of f.behind) p.bytes
       ∙ ap (λ (l : List ℕ). counted head [] f.first ++ l) (sym (bytes_more f.behind p));
   taken = f.taken;
-  payload = payload_of f.payload;
+  goes = goes_of f.goes;
 }
   where
-    payload_of : ((f.behind ≡ []) × ⊥) ⊎ (was.ended ≡ false → f.front ≡ [] → Takes was.payload then.left (bytes_of f.behind))
-        → (((f.behind ++ p ∷ []) ≡ []) × unable) ⊎ (was.ended ≡ false → f.front ≡ [] → Takes was.payload now.left (bytes_of (f.behind ++ p ∷ [])))
-    payload_of (inl x) = absurd x.1
-    payload_of (inr x) = inr (λ going nothing.
-        subst (λ (l : List ℕ). Takes was.payload now.left l) (sym (bytes_more f.behind p))
-        (subst (λ (i : Incoming). Takes was.payload i.left (bytes_of f.behind ++ p.bytes)) (sym same)
-        (takes_both was.payload then.left mid.left (bytes_of f.behind) p.bytes (x going nothing) took)))
+    goes_of : ((f.behind ≡ []) × ⊥ × (then.framed ≡ was.framed)) ⊎ GoesFramed f.front (sent f.first) was then (bytes_of f.behind)
+        → (((f.behind ++ p ∷ []) ≡ []) × unable × (now.framed ≡ was.framed)) ⊎ GoesFramed f.front (sent f.first) was now (bytes_of (f.behind ++ p ∷ []))
+    goes_of (inl x) = absurd x.1
+    goes_of (inr x) = inr (record {
+      handed = ap (λ (i : Incoming). i.framed) same ∙ stays ∙ x.handed;
+      taken = λ going payload is.
+          subst (λ (l : List ℕ). Takes (Some (f.front ++ payload)) now.left l) (sym (bytes_more f.behind p))
+          (subst (λ (i : Incoming). Takes (Some (f.front ++ payload)) i.left (bytes_of f.behind ++ p.bytes)) (sym same)
+          (takes_both (Some (f.front ++ payload)) then.left mid.left (bytes_of f.behind) p.bytes (x.taken going payload is) took));
+    })
 
 goes_on_unframed : (head : Head Upgrade HeadFault) (ps : List Piece) (p : Piece) (was then mid now : Incoming)
-    → is_framed head (counted head [] (ps ++ p ∷ [])) ≡ false → ComeUnframed head ps was then → Takes then.left mid.left p.bytes → mid.payload ≡ then.payload → now ≡ mid
+    → is_framed head (counted head [] (ps ++ p ∷ [])) ≡ false → ComeUnframed head ps was then → Takes then.left mid.left p.bytes → mid.payload ≡ then.payload → mid.framed ≡ then.framed → now ≡ mid
     → ComeUnframed head (ps ++ p ∷ []) was now
-goes_on_unframed head ps p was then mid now after u took keeps same =
+goes_on_unframed head ps p was then mid now after u took keeps stays same =
     let text = counted head [] ps in
     let more : counted head [] (ps ++ p ∷ []) ≡ with_piece head text p.bytes = counted_more head [] ps p in
     let counts = unframed_counts head text p.bytes (sym (same_framed head (counted head [] (ps ++ p ∷ [])) (with_piece head text p.bytes) more) ∙ after) in
@@ -203,33 +207,35 @@ goes_on_unframed head ps p was then mid now after u took keeps same =
           subst (λ (i : Incoming). Takes was.left i.left (bytes_of (ps ++ p ∷ []))) (sym same)
           (subst (λ (l : List ℕ). Takes was.left mid.left l) (sym (bytes_more ps p)) (takes_both was.left then.left mid.left (bytes_of ps) p.bytes u.taken took));
       payload = ap (λ (i : Incoming). i.payload) same ∙ keeps ∙ u.payload;
+      framed = ap (λ (i : Incoming). i.framed) same ∙ stays ∙ u.framed;
     }
 
-pub come_more : (a b : Bool) (e : Option LinkEnd) (head : Head Upgrade HeadFault) (ps : List Piece) (p : Piece) (was then mid now : Incoming)
-    → is_framed head (counted head [] ps) ≡ a → is_framed head (counted head [] (ps ++ p ∷ [])) ≡ b → ComeBy a head ps was then ⊥
-    → Takes then.left mid.left p.bytes → mid.payload ≡ then.payload → (was.ended ≡ false → mid.ended ≡ false)
-    → FramesBy a b e (drop head.size (counted head [] ps ++ p.bytes)) mid now
-    → ComeBy b head (ps ++ p ∷ []) was now (UnableBy e)
-come_more false false e head ps p was then mid now before after u took keeps going frames = goes_on_unframed head ps p was then mid now after u took keeps frames
-come_more false true None head ps p was then mid now before after u took keeps going frames =
-    ends_there head ps p was then mid now ⊥ before after u took
-    (inr (λ running nothing. frames (going running) nothing ∙ keeps ∙ u.payload))
-come_more false true (Some end) head ps p was then mid now before after u took keeps going frames =
-    ends_there head ps p was then mid now (UnableBy (Some end)) before after u took (inl frames)
-come_more true true e head ps p was then mid now before after f took keeps going frames =
-    goes_on_framed head ps p was then mid now (UnableBy e) before f took frames
-come_more true false e head ps p was then mid now before after f took keeps going frames =
+pub come_more : (a b : Bool) (e : Option LinkEnd) (head : Head Upgrade HeadFault) (sent : List Piece → ℕ) (ps : List Piece) (p : Piece) (was then mid now : Incoming)
+    → is_framed head (counted head [] ps) ≡ a → is_framed head (counted head [] (ps ++ p ∷ [])) ≡ b → ComeBy a head sent ps was then ⊥
+    → Takes then.left mid.left p.bytes → mid.payload ≡ then.payload → mid.framed ≡ then.framed → (was.ended ≡ false → mid.ended ≡ false)
+    → FramesBy a b e (drop head.size (counted head [] ps ++ p.bytes)) (sent (ps ++ p ∷ [])) mid now
+    → ComeBy b head sent (ps ++ p ∷ []) was now (UnableBy e)
+come_more false false e head sent ps p was then mid now before after u took keeps stays going frames =
+    goes_on_unframed head ps p was then mid now after u took keeps stays frames
+come_more false true None head sent ps p was then mid now before after u took keeps stays going frames =
+    ends_there head sent ps p was then mid now ⊥ before after u took
+    (inr (record { payload = λ running payload is. frames.payload (going running) payload (keeps ∙ u.payload ∙ is); handed = frames.handed }))
+come_more false true (Some end) head sent ps p was then mid now before after u took keeps stays going frames =
+    ends_there head sent ps p was then mid now (UnableBy (Some end)) before after u took (inl (frames.0, frames.1 ∙ stays ∙ u.framed))
+come_more true true e head sent ps p was then mid now before after f took keeps stays going frames =
+    goes_on_framed head sent ps p was then mid now (UnableBy e) before f took stays frames
+come_more true false e head sent ps p was then mid now before after f took keeps stays going frames =
     absurd (apart (sym (stays_framed head (counted head [] ps) p.bytes before) ∙ sym (same_framed head (counted head [] (ps ++ p ∷ [])) (with_piece head (counted head [] ps) p.bytes) (counted_more head [] ps p)) ∙ after))
   where
     apart : true ≡ false → ⊥
     apart e = cc
 
 -- nothing more came
-pub come_stays : (b : Bool) (head : Head Upgrade HeadFault) (ps : List Piece) (was then now : Incoming) (unable : Type 0)
-    → ComeBy b head ps was then ⊥ → Takes then.left now.left [] → now.payload ≡ then.payload → ComeBy b head ps was now unable
-come_stays false head ps was then now unable u took keeps =
-    record { text = u.text; taken = takes_none was.left then.left now.left (bytes_of ps) u.taken took; payload = keeps ∙ u.payload }
-come_stays true head ps was then now unable f took keeps = record {
+pub come_stays : (b : Bool) (head : Head Upgrade HeadFault) (sent : List Piece → ℕ) (ps : List Piece) (was then now : Incoming) (unable : Type 0)
+    → ComeBy b head sent ps was then ⊥ → Takes then.left now.left [] → now.payload ≡ then.payload → now.framed ≡ then.framed → ComeBy b head sent ps was now unable
+come_stays false head sent ps was then now unable u took keeps stays =
+    record { text = u.text; taken = takes_none was.left then.left now.left (bytes_of ps) u.taken took; payload = keeps ∙ u.payload; framed = stays ∙ u.framed }
+come_stays true head sent ps was then now unable f took keeps stays = record {
   first = f.first;
   behind = f.behind;
   parts = f.parts;
@@ -238,21 +244,24 @@ come_stays true head ps was then now unable f took keeps = record {
   size = f.size;
   text = f.text;
   taken = f.taken;
-  payload = payload_of f.payload;
+  goes = goes_of f.goes;
 }
   where
-    payload_of : ((f.behind ≡ []) × ⊥) ⊎ (was.ended ≡ false → f.front ≡ [] → Takes was.payload then.left (bytes_of f.behind))
-        → ((f.behind ≡ []) × unable) ⊎ (was.ended ≡ false → f.front ≡ [] → Takes was.payload now.left (bytes_of f.behind))
-    payload_of (inl x) = absurd x.1
-    payload_of (inr x) = inr (λ going nothing. takes_none was.payload then.left now.left (bytes_of f.behind) (x going nothing) took)
+    goes_of : ((f.behind ≡ []) × ⊥ × (then.framed ≡ was.framed)) ⊎ GoesFramed f.front (sent f.first) was then (bytes_of f.behind)
+        → ((f.behind ≡ []) × unable × (now.framed ≡ was.framed)) ⊎ GoesFramed f.front (sent f.first) was now (bytes_of f.behind)
+    goes_of (inl x) = absurd x.1
+    goes_of (inr x) = inr (record {
+      handed = stays ∙ x.handed;
+      taken = λ going payload is. takes_none (Some (f.front ++ payload)) then.left now.left (bytes_of f.behind) (x.taken going payload is) took;
+    })
 
 -- nothing came yet
-come_none : (b : Bool) (head : Head Upgrade HeadFault) (was : Incoming) (unable : Type 0) → b ≡ false → ComeBy b head [] was was unable
-come_none false head was unable is = record { text = refl; taken = starts_told was.left was.left refl; payload = refl }
-come_none true head was unable is = absurd cc
+come_none : (b : Bool) (head : Head Upgrade HeadFault) (sent : List Piece → ℕ) (was : Incoming) (unable : Type 0) → b ≡ false → ComeBy b head sent [] was was unable
+come_none false head sent was unable is = record { text = refl; taken = starts_told was.left was.left refl; payload = refl; framed = refl }
+come_none true head sent was unable is = absurd cc
 
-pub come_nothing : (head : Head Upgrade HeadFault) (was : Incoming) (unable : Type 0) → nat_lt (length {A = ℕ} []) head.size ≡ true → Come head [] was was unable
-come_nothing head was unable early = come_none (is_framed head []) head was unable (open_unframed head [] early)
+pub come_nothing : (head : Head Upgrade HeadFault) (sent : List Piece → ℕ) (was : Incoming) (unable : Type 0) → nat_lt (length {A = ℕ} []) head.size ≡ true → Come head sent [] was was unable
+come_nothing head sent was unable early = come_none (is_framed head []) head sent was unable (open_unframed head [] early)
 
-pub come_same : (b : Bool) (head : Head Upgrade HeadFault) (ps : List Piece) (was now : Incoming) (unable : Type 0) → ComeBy b head ps was now ⊥ → ComeBy b head ps was now unable
-come_same b head ps was now unable x = come_stays b head ps was now now unable x (starts_told now.left now.left refl) refl
+pub come_same : (b : Bool) (head : Head Upgrade HeadFault) (sent : List Piece → ℕ) (ps : List Piece) (was now : Incoming) (unable : Type 0) → ComeBy b head sent ps was now ⊥ → ComeBy b head sent ps was now unable
+come_same b head sent ps was now unable x = come_stays b head sent ps was now now unable x (starts_told now.left now.left refl) refl refl

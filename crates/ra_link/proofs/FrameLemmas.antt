@@ -1,6 +1,6 @@
 -- What a piece makes of what is to come on its link.
 use Rattle.std.proofs.Common.{◌≡◌, ℕ, Bool, true, false, Option, Some, None, List, ◌++◌, length, drop, inl, inr, refl, sym, ap, subst, ◌∙◌, arith, rules}
-use Rattle.std.specs.Prelude.{◌⊎◌, nat_lt}
+use Rattle.std.specs.Prelude.{◌⊎◌, nat_lt, IfSome}
 use Rattle.std.proofs.lemmas.Grind.{common_steps}
 use Rattle.ra_items.specs.Heads.{Head, IsRequestOf}
 use Rattle.ra_items.specs.Readers.{Reader}
@@ -11,14 +11,14 @@ use Rattle.ra_opening.specs.declared.phase.Phase.TheVariants as opening_phases
 use Rattle.ra_opening.specs.Openings.{Grounds}
 use Rattle.ra_opening.specs.Stands.{StandsIn, NeedsFraming, IsInShake}
 use Rattle.ra_opening.specs.Comes.{AsksFraming}
-use Rattle.ra_ports.specs.Links.{Incoming, StartsPayload}
+use Rattle.ra_ports.specs.Links.{Incoming, StartsPayload, IsHanded}
 use Rattle.ra_hub.specs.Hubs.{Hub}
 use Rattle.ra_hub.specs.Jobs.{SeenJob}
 use Rattle.ra_link_core.specs.LinkRuns.{Serving, asks_framing, with_piece}
 use Rattle.ra_link_core.specs.Makes.{Outcome, goes, over, unkept, short, outcome_of}
 use Rattle.ra_link_core.specs.Cores.{CoreStands, NotHeld, IsHeld, HeldOrShort, OnHeld, OnNoHead, IsPastHead, IsBehindHead, counted_in}
 use Rattle.ra_link.specs.Pieces.{is_framed}
-use Rattle.ra_link.specs.Served.{LinkOutcome, link_outcome, link_end, broken_end, OnFramed, CouldNotFrame, FramesBy}
+use Rattle.ra_link.specs.Served.{LinkOutcome, link_outcome, link_end, broken_end, OnFramed, CouldNotFrame, StartsFramed, FramesBy}
 use Rattle.ra_link_core.specs.declared.ends.CoreEnd.{CoreEnd}
 use Rattle.ra_link.specs.declared.ends.LinkEnd.{LinkEnd}
 use Rattle.ra_link.specs.declared.ends.LinkEnd.TheVariants as ends
@@ -47,6 +47,7 @@ pub framed_past : (phase : Phase) (g : Grounds) (head : Head Upgrade HeadFault) 
 framed_past (phases.Opening opening) g head text before next stands jobs out s x unheld is =
     past_in opening.phase g head text before next opening.reader out (unheld_stands opening g head text before next stands jobs out s x unheld) unheld (framed_asks head text is).1
 framed_past (phases.Seated seat) g head text before next stands jobs out s x unheld is = tt
+framed_past (phases.Ended seat) g head text before next stands jobs out s x unheld is = tt
 framed_past phases.Over g head text before next stands jobs out s x unheld is = tt
 
 due_in : (X : Type 0) (phase : OpeningPhase) (g : Grounds) (head : Head Upgrade HeadFault) (text piece before : List ℕ) (next : ℕ → List ℕ) (reader : Reader) (out : List ℕ)
@@ -65,6 +66,7 @@ due_at : (X : Type 0) (phase : Phase) (g : Grounds) (head : Head Upgrade HeadFau
 due_at X (phases.Opening opening) g head text piece before next stands jobs out s x unheld behind early asks due =
     due_in X opening.phase g head text piece before next opening.reader out (unheld_stands opening g head text before next stands jobs out s x unheld) unheld early asks due
 due_at X (phases.Seated seat) g head text piece before next stands jobs out s x unheld behind early asks due = absurd (never_both (sym early ∙ behind))
+due_at X (phases.Ended seat) g head text piece before next stands jobs out s x unheld behind early asks due = absurd x
 due_at X phases.Over g head text piece before next stands jobs out s x unheld behind early asks due = absurd x
 
 -- its head ends in this piece
@@ -94,6 +96,7 @@ pub held_framed : (phase : Phase) (g : Grounds) (head : Head Upgrade HeadFault) 
 held_framed (phases.Opening opening) g head text before next stands jobs out s x held =
     ap (is_framed head) x.counts ∙ held_by opening.phase g head x.raw before next opening.reader out x.opens held
 held_framed (phases.Seated seat) g head text before next stands jobs out s x held = absurd held
+held_framed (phases.Ended seat) g head text before next stands jobs out s x held = absurd x
 held_framed phases.Over g head text before next stands jobs out s x held = absurd x
 
 pub unframed_free : (phase : Phase) (g : Grounds) (head : Head Upgrade HeadFault) (text before : List ℕ) (next : ℕ → List ℕ) (stands : Hub → Type 0) (jobs : Option (List SeenJob)) (out : List ℕ) (s : Serving)
@@ -107,18 +110,18 @@ unframed_free phase g head text before next stands jobs out s x is =
 
 -- ---- by whether it was framed before, and is then
 
-pub frames_by : (a b : Bool) (e : Option LinkEnd) (front : List ℕ) (old new : Incoming)
-    → (a ≡ true → new ≡ old) → (a ≡ false → b ≡ false → new ≡ old) → (a ≡ false → b ≡ true → FramesBy false true e front old new) → FramesBy a b e front old new
-frames_by true b e front old new was never now = was refl
-frames_by false false e front old new was never now = never refl refl
-frames_by false true e front old new was never now = now refl refl
+pub frames_by : (a b : Bool) (e : Option LinkEnd) (front : List ℕ) (sent : ℕ) (old new : Incoming)
+    → (a ≡ true → new ≡ old) → (a ≡ false → b ≡ false → new ≡ old) → (a ≡ false → b ≡ true → FramesBy false true e front sent old new) → FramesBy a b e front sent old new
+frames_by true b e front sent old new was never now = was refl
+frames_by false false e front sent old new was never now = never refl refl
+frames_by false true e front sent old new was never now = now refl refl
 
 -- all stays, and the link ended
-pub frames_stay : (a b : Bool) (end : LinkEnd) (front : List ℕ) (old new : Incoming)
-    → new ≡ old → (a ≡ false → b ≡ true → CouldNotFrame (link_outcome end)) → FramesBy a b (Some end) front old new
-frames_stay true b end front old new same unable = same
-frames_stay false false end front old new same unable = same
-frames_stay false true end front old new same unable = unable refl refl
+pub frames_stay : (a b : Bool) (end : LinkEnd) (front : List ℕ) (sent : ℕ) (old new : Incoming)
+    → new ≡ old → (a ≡ false → b ≡ true → CouldNotFrame (link_outcome end)) → FramesBy a b (Some end) front sent old new
+frames_stay true b end front sent old new same unable = same
+frames_stay false false end front sent old new same unable = same
+frames_stay false true end front sent old new same unable = (unable refl refl, ap (λ (i : Incoming). i.framed) same)
 
 -- ---- ends of a link that is to be framed
 
@@ -141,35 +144,30 @@ pub unable_ended : (e : CoreEnd) (phase : Phase) → HeldOrShort (outcome_of (So
 unable_ended e phase due = subst (λ (o : LinkOutcome). CouldNotFrame o) (sym (end_lifted e)) (lifted_unable (outcome_of (Some e)) phase (never_goes e) due)
 
 unable_framed : (e : LinkEnd) (A B : Type 0) → OnFramed (Some e) A B → CouldNotFrame (link_outcome e)
-unable_framed ends.Closed A B x = absurd x
 unable_framed ends.LinkFault A B x = tt
-unable_framed (ends.BadHead fault) A B x = absurd x
-unable_framed (ends.Refused reason) A B x = absurd x
-unable_framed (ends.TooLong n) A B x = absurd x
-unable_framed (ends.BadIpc fault message) A B x = absurd x
-unable_framed (ends.Stale current) A B x = absurd x
-unable_framed ends.NoLink A B x = absurd x
-unable_framed (ends.Ended cause) A B x = absurd x
-unable_framed ends.IdsSpent A B x = absurd x
-unable_framed ends.TurnsSpent A B x = absurd x
-unable_framed ends.KeepFault A B x = absurd x
 unable_framed ends.NoMemory A B x = tt
+unable_framed _ A B x = absurd x
 
--- the payload starts behind the head
-starts_at : (phase : Phase) (head : Head Upgrade HeadFault) (raw whole : List ℕ) (old new : Incoming) → IsHeld phase → length whole ≡ head.size
-    → OnHeld phase (λ front. raw ≡ whole ++ front) → OnHeld phase (λ front. StartsPayload old new front) → StartsPayload old new (drop head.size raw)
-starts_at (phases.Opening opening) head raw whole old new held size unread starts =
+-- the payload starts behind the head, and what was read of it is handed on
+starts_at : (phase : Phase) (head : Head Upgrade HeadFault) (raw whole first : List ℕ) (sent : Option (List ℕ)) (old new : Incoming) → IsHeld phase → length whole ≡ head.size
+    → OnHeld phase (λ front. raw ≡ whole ++ front) → sent ≡ Some first → OnHeld phase (λ front. StartsPayload old new front) → OnHeld phase (λ front. IsHanded sent new front)
+    → StartsFramed (drop head.size raw) (length first) old new
+starts_at (phases.Opening opening) head raw whole first sent old new held size unread sent_is starts handed =
     let front = opening.reader.unread in
     let is : drop head.size raw ≡ front = ap (λ (n : ℕ). drop n raw) (sym size) ∙ ap (drop (length whole)) (unread held) ∙ behind whole front in
-    subst (λ (l : List ℕ). StartsPayload old new l) (sym is) (starts held)
+    subst (λ (l : List ℕ). StartsFramed l (length first) old new) (sym is) (record { payload = starts held; handed = handed held first sent_is })
   where
     behind : (xs ys : List ℕ) → drop (length xs) (xs ++ ys) ≡ ys
     behind xs ys = grind (arith, common_steps)
-starts_at (phases.Seated seat) head raw whole old new held size unread starts = absurd held
-starts_at phases.Over head raw whole old new held size unread starts = absurd held
+starts_at (phases.Seated seat) head raw whole first sent old new held size unread sent_is starts handed = absurd held
+starts_at (phases.Ended seat) head raw whole first sent old new held size unread sent_is starts handed = absurd held
+starts_at phases.Over head raw whole first sent old new held size unread sent_is starts handed = absurd held
 
-pub frames_held : (e : Option LinkEnd) (phase : Phase) (head : Head Upgrade HeadFault) (raw whole : List ℕ) (A B : Type 0) (old new : Incoming) → IsHeld phase → length whole ≡ head.size
-    → OnHeld phase (λ front. raw ≡ whole ++ front) → OnFramed e A B → (e ≡ None → OnHeld phase (λ front. StartsPayload old new front))
-    → FramesBy false true e (drop head.size raw) old new
-frames_held None phase head raw whole A B old new held size unread framed starts = starts_at phase head raw whole old new held size unread (starts refl)
-frames_held (Some end) phase head raw whole A B old new held size unread framed starts = unable_framed end A B framed
+pub frames_held : (e : Option LinkEnd) (phase : Phase) (head : Head Upgrade HeadFault) (raw whole first : List ℕ) (sent : Option (List ℕ)) (A B : Type 0) (old new : Incoming) → IsHeld phase → length whole ≡ head.size
+    → OnHeld phase (λ front. raw ≡ whole ++ front) → sent ≡ Some first → OnFramed e A B → (e ≡ None → OnHeld phase (λ front. StartsPayload old new front))
+    → (e ≡ None → OnHeld phase (λ front. IsHanded sent new front)) → IfSome e (λ end. new.framed ≡ old.framed)
+    → FramesBy false true e (drop head.size raw) (length first) old new
+frames_held None phase head raw whole first sent A B old new held size unread sent_is framed starts handed unframed =
+    starts_at phase head raw whole first sent old new held size unread sent_is (starts refl) (handed refl)
+frames_held (Some end) phase head raw whole first sent A B old new held size unread sent_is framed starts handed unframed =
+    (unable_framed end A B framed, unframed)

@@ -147,6 +147,7 @@ pub known_more : (phase : Phase) (g : Grounds) (head : Head Upgrade HeadFault) (
 known_more (phases.Opening opening) g head ps p before next stands jobs out s is x unheld behind known =
     known_in opening.phase g head ps p before next opening.reader out is (unheld_stands opening g head (counted head [] ps) before next stands jobs out s x unheld) unheld known
 known_more (phases.Seated seat) g head ps p before next stands jobs out s is x unheld behind known = judged_more head ps p is behind
+known_more (phases.Ended seat) g head ps p before next stands jobs out s is x unheld behind known = absurd x
 known_more phases.Over g head ps p before next stands jobs out s is x unheld behind known = absurd x
 
 -- nothing came yet
@@ -181,6 +182,7 @@ knows_ended e text known = subst (λ (o : LinkOutcome). OnNotShort o (HasHead te
 pub on_no_head : (phase : Phase) (P Q : List ℕ → Type 0) → ((unread : List ℕ) → P unread → Q unread) → OnNoHead phase P → OnNoHead phase Q
 on_no_head (phases.Opening opening) P Q so x = λ none. so opening.reader.unread (x none)
 on_no_head (phases.Seated seat) P Q so x = tt
+on_no_head (phases.Ended seat) P Q so x = tt
 on_no_head phases.Over P Q so x = tt
 
 always_by : (o : LinkOutcome) (P : Type 0) → P → OnNotShort o P

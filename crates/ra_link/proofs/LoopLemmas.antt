@@ -22,7 +22,7 @@ use Rattle.ra_link_core.specs.LinkRuns.{Serving, Piece, piece_done, link_run, wi
 use Rattle.ra_link_core.specs.Makes.{Happens}
 use Rattle.ra_link_core.specs.Cores.{CoreStands, NotHeld, OnNoHead, IsBehindHead, seat_in}
 use Rattle.ra_link.specs.Pieces.{counted, NowsAre, HaveHead, is_framed, Come}
-use Rattle.ra_link.specs.Served.{LinkOutcome, link_closed, link_broke, link_spent, link_over, link_unkept, link_short, link_outcome, IsPieceEnd, IsSpent, ReadsAre, got_len, raised, CouldNotFrame, UnableBy, FramesBy, Frames, LinkKnows, Serves, LinkEnds, AfterPiece, WasServed, IsServed, SoFar, Starts}
+use Rattle.ra_link.specs.Served.{LinkOutcome, link_closed, link_broke, link_spent, link_over, link_unkept, link_short, link_outcome, IsPieceEnd, IsSpent, ReadsAre, got_len, raised, CouldNotFrame, UnableBy, FramesBy, Frames, LinkKnows, Serves, LinkEnds, AfterPiece, sent_by, WasServed, IsServed, SoFar, Starts}
 use Rattle.ra_link.specs.declared.ends.LinkEnd.{LinkEnd}
 use Rattle.ra_link.specs.declared.ends.LinkEnd.TheVariants as ends
 use Rattle.ra_link_core.specs.declared.phase.Phase.{Phase}
@@ -127,10 +127,10 @@ got_none GotEnd into is = refl
 stops_there : (end : LinkEnd) (turn turns : ℕ) (g : Grounds) (start : Serving) (first : List ℕ) (moments : ℕ → ℕ) (incoming incoming_then incoming_now : Incoming) (sent sent' : Option (List ℕ)) (phase : Phase) (next : ℕ → List ℕ)
     (stands : Hub → Type 0) (jobs : Option (List SeenJob)) (tells : Bool) (clock : ℕ → ℕ) (then : ℕ) (failed : Type 0) (now : ℕ)
     → SoFar turn g start first moments incoming incoming_then sent phase next stands jobs tells clock then → turn < turns → ReadsAre (link_outcome end) turn (turn + 1) turns
-    → (tells ≡ true → now ≡ clock 0) → sent' ≡ sent → Takes incoming_then.left incoming_now.left [] → incoming_now.payload ≡ incoming_then.payload
+    → (tells ≡ true → now ≡ clock 0) → sent' ≡ sent → Takes incoming_then.left incoming_now.left [] → incoming_now.payload ≡ incoming_then.payload → incoming_now.framed ≡ incoming_then.framed
     → ((s : Serving) → Serves first sent (seat_in phase) stands jobs s → s.end ≡ None → LinkEnds (link_outcome end) first sent (seat_in phase) stands jobs failed start s)
     → WasServed end g start first moments turns incoming incoming_now sent' (seat_in phase) stands jobs failed now
-stops_there end turn turns g start first moments incoming incoming_then incoming_now sent sent' phase next stands jobs tells clock then failed now s more reads clock_now same took keeps ends =
+stops_there end turn turns g start first moments incoming incoming_then incoming_now sent sent' phase next stands jobs tells clock then failed now s more reads clock_now same took keeps stays ends =
     let at_turn : moments (turn + 0) ≡ moments (turn + 1 - 1) = (let e : turn + 0 ≡ turn + 1 - 1 = omega arith in ap moments e) in
     record {
       pieces = s.pieces;
@@ -148,18 +148,18 @@ stops_there end turn turns g start first moments incoming incoming_then incoming
           ends u (record { sent_is = a.sent_is; hub_stands = x.tells.hub_stands; jobs_are = x.tells.jobs_are; seat_is = x.seat_is }) x.end_is in
           record {
             ended = subst (λ (o : Option (List ℕ)). LinkEnds (link_outcome end) first o (seat_in phase) stands jobs failed start u) (sym same) done;
-            came = come_stays (is_framed head (counted head [] s.pieces)) head s.pieces incoming incoming_then incoming_now (CouldNotFrame (link_outcome end)) a.came took keeps;
+            came = come_stays (is_framed head (counted head [] s.pieces)) head (sent_by g head start first) s.pieces incoming incoming_then incoming_now (CouldNotFrame (link_outcome end)) a.came took keeps stays;
           };
     }
 
 pub failed_there : (turn turns : ℕ) (g : Grounds) (start : Serving) (first : List ℕ) (moments : ℕ → ℕ) (incoming incoming_then incoming_now : Incoming) (sent sent' : Option (List ℕ)) (phase : Phase) (next : ℕ → List ℕ)
     (stands : Hub → Type 0) (jobs : Option (List SeenJob)) (tells : Bool) (clock : ℕ → ℕ) (then : ℕ) (failed : Type 0) (now : ℕ)
     → SoFar turn g start first moments incoming incoming_then sent phase next stands jobs tells clock then → turn < turns
-    → (tells ≡ true → now ≡ clock 0) → sent' ≡ sent → Takes incoming_then.left incoming_now.left [] → incoming_now.payload ≡ incoming_then.payload
+    → (tells ≡ true → now ≡ clock 0) → sent' ≡ sent → Takes incoming_then.left incoming_now.left [] → incoming_now.payload ≡ incoming_then.payload → incoming_now.framed ≡ incoming_then.framed
     → WasServed ends.LinkFault g start first moments turns incoming incoming_now sent' (seat_in phase) stands jobs failed now
-failed_there turn turns g start first moments incoming incoming_then incoming_now sent sent' phase next stands jobs tells clock then failed now s more clock_now same took keeps =
+failed_there turn turns g start first moments incoming incoming_then incoming_now sent sent' phase next stands jobs tells clock then failed now s more clock_now same took keeps stays =
     stops_there ends.LinkFault turn turns g start first moments incoming incoming_then incoming_now sent sent' phase next stands jobs tells clock then failed now s more
-    (omega arith, omega arith) clock_now same took keeps
+    (omega arith, omega arith) clock_now same took keeps stays
     (λ u serves none. record {
       sent_is = record { front = u.out; sent_is = serves.sent_is; rest = []; parts = sym (append-nil u.out) };
       hub_stands = serves.hub_stands;
@@ -170,11 +170,11 @@ failed_there turn turns g start first moments incoming incoming_then incoming_no
 pub closed_there : (turn turns : ℕ) (g : Grounds) (start : Serving) (first : List ℕ) (moments : ℕ → ℕ) (incoming incoming_then incoming_now : Incoming) (sent sent' : Option (List ℕ)) (phase : Phase) (next : ℕ → List ℕ)
     (stands : Hub → Type 0) (jobs : Option (List SeenJob)) (tells : Bool) (clock : ℕ → ℕ) (then : ℕ) (failed : Type 0) (now : ℕ)
     → SoFar turn g start first moments incoming incoming_then sent phase next stands jobs tells clock then → turn < turns
-    → (tells ≡ true → now ≡ clock 0) → sent' ≡ sent → Takes incoming_then.left incoming_now.left [] → incoming_now.payload ≡ incoming_then.payload
+    → (tells ≡ true → now ≡ clock 0) → sent' ≡ sent → Takes incoming_then.left incoming_now.left [] → incoming_now.payload ≡ incoming_then.payload → incoming_now.framed ≡ incoming_then.framed
     → WasServed ends.Closed g start first moments turns incoming incoming_now sent' (seat_in phase) stands jobs failed now
-closed_there turn turns g start first moments incoming incoming_then incoming_now sent sent' phase next stands jobs tells clock then failed now s more clock_now same took keeps =
+closed_there turn turns g start first moments incoming incoming_then incoming_now sent sent' phase next stands jobs tells clock then failed now s more clock_now same took keeps stays =
     stops_there ends.Closed turn turns g start first moments incoming incoming_then incoming_now sent sent' phase next stands jobs tells clock then failed now s more
-    refl clock_now same took keeps (λ u serves none. (serves, none))
+    refl clock_now same took keeps stays (λ u serves none. (serves, none))
 
 pub spent_there : (turn turns : ℕ) (g : Grounds) (start : Serving) (first : List ℕ) (moments : ℕ → ℕ) (incoming incoming_now : Incoming) (sent : Option (List ℕ)) (phase : Phase) (next : ℕ → List ℕ)
     (stands : Hub → Type 0) (jobs : Option (List SeenJob)) (tells : Bool) (clock : ℕ → ℕ) (failed : Type 0) (now : ℕ)
@@ -192,7 +192,7 @@ spent_there turn turns g start first moments incoming incoming_now sent phase ne
       let a = s.at head is in
       let u = link_run g head [] s.pieces start in
       let x = core_going phase g head (counted head [] s.pieces) u.out next stands jobs [] u a.core in
-      record { ended = (record { sent_is = a.sent_is; hub_stands = x.tells.hub_stands; jobs_are = x.tells.jobs_are; seat_is = x.seat_is }, x.end_is); came = come_same (is_framed head (counted head [] s.pieces)) head s.pieces incoming incoming_now ⊥ a.came };
+      record { ended = (record { sent_is = a.sent_is; hub_stands = x.tells.hub_stands; jobs_are = x.tells.jobs_are; seat_is = x.seat_is }, x.end_is); came = come_same (is_framed head (counted head [] s.pieces)) head (sent_by g head start first) s.pieces incoming incoming_now ⊥ a.came };
 }
 
 -- ---- a piece came
@@ -208,26 +208,36 @@ pub record PieceCame (e : Option LinkEnd) (g : Grounds) (piece : List ℕ) (now 
       → AfterPiece e new g head (with_piece head text piece) next' first is stands' jobs' failed start (piece_done g head text (piece_at piece now) s)
   pub took : Takes incoming_then.left incoming_mid.left piece
   pub keeps : incoming_mid.payload ≡ incoming_then.payload
+  pub stays : incoming_mid.framed ≡ incoming_then.framed
   pub goes : incoming.ended ≡ false → incoming_mid.ended ≡ false
   pub free : NotHeld old
   pub known : OnNoHead old (λ unread. LinkKnows e (unread ++ piece))
   pub came : (head : Head Upgrade HeadFault) (text : List ℕ) (s : Serving) → IsRequestOf (text ++ piece) head
-      → CoreStands old g head text s.out next stands jobs [] s → IsBehindHead old head text → Frames e head text piece incoming_mid incoming_now
+      → CoreStands old g head text s.out next stands jobs [] s → IsBehindHead old head text → was ≡ Some (first ++ s.out)
+      → Frames e head text piece (length (first ++ (piece_done g head text (piece_at piece now) s).out)) incoming_mid incoming_now
 
 -- how the pieces came, with this one
 come_with : (e : Option LinkEnd) (g : Grounds) (piece : List ℕ) (now : ℕ) (first : List ℕ) (old new : Phase) (was is : Option (List ℕ)) (next next' : ℕ → List ℕ)
-    (stands stands' : Hub → Type 0) (jobs jobs' : Option (List SeenJob)) (incoming incoming_then incoming_mid incoming_now : Incoming) (failed : Type 0) (head : Head Upgrade HeadFault) (ps : List Piece) (s : Serving)
+    (stands stands' : Hub → Type 0) (jobs jobs' : Option (List SeenJob)) (incoming incoming_then incoming_mid incoming_now : Incoming) (failed : Type 0) (head : Head Upgrade HeadFault) (ps : List Piece) (start : Serving)
     → PieceCame e g piece now first old new was is next next' stands stands' jobs jobs' incoming incoming_then incoming_mid incoming_now failed
-    → Come head ps incoming incoming_then ⊥ → IsRequestOf (counted head [] ps ++ piece) head → CoreStands old g head (counted head [] ps) s.out next stands jobs [] s
-    → IsBehindHead old head (counted head [] ps) → Come head (ps ++ piece_at piece now ∷ []) incoming incoming_now (UnableBy e)
-come_with e g piece now first old new was is next next' stands stands' jobs jobs' incoming incoming_then incoming_mid incoming_now failed head ps s x come is_head core behind =
+    → Come head (sent_by g head start first) ps incoming incoming_then ⊥ → IsRequestOf (counted head [] ps ++ piece) head
+    → CoreStands old g head (counted head [] ps) (link_run g head [] ps start).out next stands jobs [] (link_run g head [] ps start)
+    → IsBehindHead old head (counted head [] ps) → was ≡ Some (first ++ (link_run g head [] ps start).out)
+    → Come head (sent_by g head start first) (ps ++ piece_at piece now ∷ []) incoming incoming_now (UnableBy e)
+come_with e g piece now first old new was is next next' stands stands' jobs jobs' incoming incoming_then incoming_mid incoming_now failed head ps start x come is_head core behind sent_is =
     let p = piece_at piece now in
     let text = counted head [] ps in
     let more : counted head [] (ps ++ p ∷ []) ≡ with_piece head text piece = counted_more head [] ps p in
-    let frames : FramesBy (is_framed head text) (is_framed head (counted head [] (ps ++ p ∷ []))) e (drop head.size (text ++ piece)) incoming_mid incoming_now =
-    subst (λ (b : Bool). FramesBy (is_framed head text) b e (drop head.size (text ++ piece)) incoming_mid incoming_now) (sym (ap (is_framed head) more))
-    (x.came head text s is_head core behind) in
-    come_more (is_framed head text) (is_framed head (counted head [] (ps ++ p ∷ []))) e head ps p incoming incoming_then incoming_mid incoming_now refl refl come x.took x.keeps x.goes frames
+    let front = drop head.size (text ++ piece) in
+    let sent = sent_by g head start first (ps ++ p ∷ []) in
+    let s = link_run g head [] ps start in
+    let sent_so : length (first ++ (piece_done g head text p s).out) ≡ sent =
+    ap (λ (u : Serving). length (first ++ u.out)) (sym (run_more g head [] ps p start)) in
+    let frames : FramesBy (is_framed head text) (is_framed head (counted head [] (ps ++ p ∷ []))) e front sent incoming_mid incoming_now =
+    subst (λ (b : Bool). FramesBy (is_framed head text) b e front sent incoming_mid incoming_now) (sym (ap (is_framed head) more))
+    (subst (λ (n : ℕ). FramesBy (is_framed head text) (is_framed head (with_piece head text piece)) e front n incoming_mid incoming_now) sent_so
+    (x.came head text s is_head core behind sent_is)) in
+    come_more (is_framed head text) (is_framed head (counted head [] (ps ++ p ∷ []))) e head (sent_by g head start first) ps p incoming incoming_then incoming_mid incoming_now refl refl come x.took x.keeps x.stays x.goes frames
 
 -- and what is known of their head
 known_with : (turn : ℕ) (g : Grounds) (start : Serving) (first : List ℕ) (moments : ℕ → ℕ) (incoming incoming_then : Incoming) (sent : Option (List ℕ)) (old : Phase) (next : ℕ → List ℕ)
@@ -289,7 +299,7 @@ ended_there end turn turns g start first moments incoming incoming_then incoming
           record {
             ended = subst (λ (u : Serving). LinkEnds (link_outcome end) first is (seat_in new) stands' jobs' failed start u) (sym (run_more g head [] s.pieces p start))
                 (came.made head text start v heads.whole a.core a.sent_is a.happens);
-            came = come_with (Some end) g piece now first old new was is next next' stands stands' jobs jobs' incoming incoming_then incoming_mid incoming_now failed head s.pieces v came a.came heads.whole a.core a.behind;
+            came = come_with (Some end) g piece now first old new was is next next' stands stands' jobs jobs' incoming incoming_then incoming_mid incoming_now failed head s.pieces start came a.came heads.whole a.core a.behind a.sent_is;
           };
     }
 
@@ -324,7 +334,7 @@ goes_there turn g start first moments incoming incoming_then incoming_mid incomi
             core = subst (λ (w : Serving). CoreStands new g head (counted head [] (s.pieces ++ p ∷ [])) w.out next' stands' jobs' [] w) same core;
             sent_is = subst (λ (w : Serving). is ≡ Some (first ++ w.out)) same made.1;
             happens = subst (λ (w : Serving). Happens start w) same (happens_trans start v u a.happens (piece_happens old g head text v.out next stands jobs [] p v a.core));
-            came = come_with None g piece now first old new was is next next' stands stands' jobs jobs' incoming incoming_then incoming_mid incoming_now failed head s.pieces v came a.came heads.whole a.core a.behind;
+            came = come_with None g piece now first old new was is next next' stands stands' jobs jobs' incoming incoming_then incoming_mid incoming_now failed head s.pieces start came a.came heads.whole a.core a.behind a.sent_is;
             behind = subst (λ (t : List ℕ). IsBehindHead new head t) (sym (counted_more head [] s.pieces p))
                 (behind_more old new g head text v.out u.out next next' stands stands' jobs jobs' [] [] p v a.core a.behind made.0);
           };
@@ -349,7 +359,7 @@ starts_there g start first moments incoming sent phase next stands jobs tells cl
     core = s.core head is;
     sent_is = s.sent_is;
     happens = happens_refl start;
-    came = come_nothing head incoming ⊥ (nothing_early g head is);
+    came = come_nothing head (sent_by g head start first) incoming ⊥ (nothing_early g head is);
     behind = s.behind head;
   };
 }
@@ -443,7 +453,7 @@ not_served g first h js moments turns incoming sent stands jobs failed sent_is h
         came = happens_refl (new_serving h js);
         comes = grows_refl (new_serving h js);
       };
-      came = come_nothing head incoming ⊤ (nothing_early g head is);
+      came = come_nothing head (sent_by g head (new_serving h js) first) incoming ⊤ (nothing_early g head is);
     };
   };
 }

@@ -33,6 +33,7 @@ pub core_going : (phase : Phase) (g : Grounds) (head : Head Upgrade HeadFault) (
     → CoreStands phase g head text before next stands jobs out s → IsGoing (seat_in phase) stands jobs (base_of g before next) out s
 core_going (phases.Opening opening) g head text before next stands jobs out s x = x.going
 core_going (phases.Seated seat) g head text before next stands jobs out s x = x
+core_going (phases.Ended seat) g head text before next stands jobs out s x = absurd x
 core_going phases.Over g head text before next stands jobs out s x = absurd x
 
 -- what was written before may stand before it
@@ -87,6 +88,7 @@ core_rebased (phases.Opening opening) g head text before next stands jobs out s 
   drawn = x.drawn;
 }
 core_rebased (phases.Seated seat) g head text before next stands jobs out s x = going_rebased (Some seat) g before out next stands jobs s x
+core_rebased (phases.Ended seat) g head text before next stands jobs out s x = absurd x
 core_rebased phases.Over g head text before next stands jobs out s x = absurd x
 
 -- ---- sending
@@ -107,7 +109,7 @@ front_sent first before out written old new is sends parts = record {
 whole_sent : (first : List ℕ) (sent : Option (List ℕ)) (written : List ℕ) → sent ≡ Some (first ++ written) → SentFront first sent written
 whole_sent first sent written is = record { front = written; sent_is = is; rest = []; parts = sym (append-nil written) }
 
-sent_as : (first : List ℕ) (sent : Option (List ℕ)) (before out written : List ℕ) → sent ≡ Some (first ++ (before ++ out)) → written ≡ before ++ out → sent ≡ Some (first ++ written)
+pub sent_as : (first : List ℕ) (sent : Option (List ℕ)) (before out written : List ℕ) → sent ≡ Some (first ++ (before ++ out)) → written ≡ before ++ out → sent ≡ Some (first ++ written)
 sent_as first sent before out written is same = is ∙ ap (λ (l : List ℕ). Some (first ++ l)) (sym same)
 
 -- ---- all of it was sent
@@ -287,8 +289,10 @@ core_framed : (old new : Phase) (g : Grounds) (head : Head Upgrade HeadFault) (t
 core_framed (phases.Opening old) (phases.Opening new) g head text before next stands jobs out s x held sets free =
     opening_framed old new g head text before next stands jobs out s x held sets free
 core_framed (phases.Opening old) (phases.Seated seat) g head text before next stands jobs out s x held sets free = absurd sets
+core_framed (phases.Opening old) (phases.Ended seat) g head text before next stands jobs out s x held sets free = absurd sets
 core_framed (phases.Opening old) phases.Over g head text before next stands jobs out s x held sets free = absurd sets
 core_framed (phases.Seated seat) new g head text before next stands jobs out s x held sets free = absurd held
+core_framed (phases.Ended seat) new g head text before next stands jobs out s x held sets free = absurd held
 core_framed phases.Over new g head text before next stands jobs out s x held sets free = absurd held
 
 opening_held : (phase : OpeningPhase) → NeedsFraming phase ⊎ (NeedsFraming phase → ⊥)
@@ -300,6 +304,7 @@ opening_held opening_phases.Over = inr (λ no. no)
 pub held_or_not : (phase : Phase) → IsHeld phase ⊎ NotHeld phase
 held_or_not (phases.Opening opening) = opening_held opening.phase
 held_or_not (phases.Seated seat) = inr tt
+held_or_not (phases.Ended seat) = inr tt
 held_or_not phases.Over = inr tt
 
 -- a link that goes on was sent all, and is framed where it has to be
@@ -324,17 +329,7 @@ framed_by (Some ends.NoMemory) old new g head text before next stands jobs out f
       came = happens;
       comes = grows_refl u;
     }
-framed_by (Some ends.Closed) old new g head text before next stands jobs out first sent failed start u x is happens held same free = absurd same
-framed_by (Some (ends.BadHead fault)) old new g head text before next stands jobs out first sent failed start u x is happens held same free = absurd same
-framed_by (Some (ends.Refused reason)) old new g head text before next stands jobs out first sent failed start u x is happens held same free = absurd same
-framed_by (Some (ends.TooLong n)) old new g head text before next stands jobs out first sent failed start u x is happens held same free = absurd same
-framed_by (Some (ends.BadIpc fault message)) old new g head text before next stands jobs out first sent failed start u x is happens held same free = absurd same
-framed_by (Some (ends.Stale current)) old new g head text before next stands jobs out first sent failed start u x is happens held same free = absurd same
-framed_by (Some ends.NoLink) old new g head text before next stands jobs out first sent failed start u x is happens held same free = absurd same
-framed_by (Some (ends.Ended cause)) old new g head text before next stands jobs out first sent failed start u x is happens held same free = absurd same
-framed_by (Some ends.IdsSpent) old new g head text before next stands jobs out first sent failed start u x is happens held same free = absurd same
-framed_by (Some ends.TurnsSpent) old new g head text before next stands jobs out first sent failed start u x is happens held same free = absurd same
-framed_by (Some ends.KeepFault) old new g head text before next stands jobs out first sent failed start u x is happens held same free = absurd same
+framed_by (Some _) old new g head text before next stands jobs out first sent failed start u x is happens held same free = absurd same
 
 unframed_by : (e : Option LinkEnd) (old new : Phase) (g : Grounds) (head : Head Upgrade HeadFault) (text before : List ℕ) (next : ℕ → List ℕ) (stands : Hub → Type 0) (jobs : Option (List SeenJob)) (out first : List ℕ) (sent : Option (List ℕ)) (failed : Type 0) (start u : Serving)
     → CoreStands old g head text before next stands jobs out u → sent ≡ Some (first ++ u.out) → e ≡ None → new ≡ old

@@ -38,11 +38,18 @@ pub record ComeUnframed (head : Head Upgrade HeadFault) (pieces : List Piece) (o
   pub text : counted head [] pieces ≡ bytes_of pieces
   pub taken : Takes old.left new.left (bytes_of pieces)
   pub payload : new.payload ≡ old.payload
+  pub framed : new.framed ≡ old.framed
+
+-- The link was framed behind so many bytes that were sent, and handed this front of the framed stream. These bytes were taken of that
+-- front and of the payload behind it, as the link told it.
+pub record GoesFramed (front : List ℕ) (sent : ℕ) (old new : Incoming) (bytes : List ℕ) : Type 0 where
+  pub handed : new.framed ≡ Some (record { sent = sent; rest = front })
+  pub taken : old.ended ≡ false → (payload : List ℕ) → old.payload ≡ Some payload → Takes (Some (front ++ payload)) new.left bytes
 
 -- The link is framed as its head ends. The pieces up to there were taken of the link, and are the head and a front of the framed stream,
--- which does not count. The pieces behind are of the payload, as the link told it where that front is empty; there are none where the
--- link could not be framed.
-pub record ComeFramed (head : Head Upgrade HeadFault) (pieces : List Piece) (old new : Incoming) (unable : Type 0) : Type 0 where
+-- which does not count there. All that they made the link write was sent before it was framed, and it was handed the whole front. The
+-- pieces behind are of that front and the payload; there are none where the link could not be framed, and it is then as it was.
+pub record ComeFramed (head : Head Upgrade HeadFault) (sent : List Piece → ℕ) (pieces : List Piece) (old new : Incoming) (unable : Type 0) : Type 0 where
   pub first : List Piece
   pub behind : List Piece
   pub parts : pieces ≡ first ++ behind
@@ -51,12 +58,12 @@ pub record ComeFramed (head : Head Upgrade HeadFault) (pieces : List Piece) (old
   pub size : length (counted head [] first) ≡ head.size
   pub text : counted head [] pieces ≡ counted head [] first ++ bytes_of behind
   pub taken : IsFrontOf old.left (bytes_of first)
-  pub payload : ((behind ≡ []) × unable) ⊎ (old.ended ≡ false → front ≡ [] → Takes old.payload new.left (bytes_of behind))
+  pub goes : ((behind ≡ []) × unable × (new.framed ≡ old.framed)) ⊎ GoesFramed front (sent first) old new (bytes_of behind)
 
-abbrev pub ComeBy : Bool → Head Upgrade HeadFault → List Piece → (old new : Incoming) (unable : Type 0) → Type 0
-ComeBy false head pieces old new unable = ComeUnframed head pieces old new
-ComeBy true head pieces old new unable = ComeFramed head pieces old new unable
+abbrev pub ComeBy : Bool → Head Upgrade HeadFault → (sent : List Piece → ℕ) → List Piece → (old new : Incoming) (unable : Type 0) → Type 0
+ComeBy false head sent pieces old new unable = ComeUnframed head pieces old new
+ComeBy true head sent pieces old new unable = ComeFramed head sent pieces old new unable
 
--- how the pieces came from the link
-abbrev pub Come : Head Upgrade HeadFault → List Piece → (old new : Incoming) (unable : Type 0) → Type 0
-Come head pieces old new unable = ComeBy (is_framed head (counted head [] pieces)) head pieces old new unable
+-- how the pieces came from the link, on which so many bytes are sent once all is sent that a list of pieces makes it write
+abbrev pub Come : Head Upgrade HeadFault → (sent : List Piece → ℕ) → List Piece → (old new : Incoming) (unable : Type 0) → Type 0
+Come head sent pieces old new unable = ComeBy (is_framed head (counted head [] pieces)) head sent pieces old new unable

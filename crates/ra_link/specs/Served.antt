@@ -40,17 +40,9 @@ link_end core_ends.NoMemory = ends.NoMemory
 
 -- the end where not all could be sent
 abbrev pub broken_end : Option CoreEnd → LinkEnd
-broken_end None = ends.LinkFault
-broken_end (Some (core_ends.BadHead fault)) = ends.LinkFault
-broken_end (Some (core_ends.Refused reason)) = ends.LinkFault
-broken_end (Some (core_ends.TooLong n)) = ends.LinkFault
-broken_end (Some (core_ends.BadIpc fault message)) = ends.LinkFault
-broken_end (Some (core_ends.Stale current)) = ends.LinkFault
-broken_end (Some core_ends.NoLink) = ends.LinkFault
-broken_end (Some (core_ends.Ended cause)) = ends.LinkFault
-broken_end (Some core_ends.IdsSpent) = ends.LinkFault
 broken_end (Some core_ends.KeepFault) = ends.KeepFault
 broken_end (Some core_ends.NoMemory) = ends.NoMemory
+broken_end _ = ends.LinkFault
 
 pub data LinkOutcome : Type 0 where
   link_closed : LinkOutcome
@@ -78,46 +70,27 @@ link_outcome ends.NoMemory = link_short
 -- ---- what is known of every link
 
 abbrev pub OnBroke : LinkOutcome → Type 0 → Type 0
-OnBroke link_closed P = ⊤
 OnBroke link_broke P = P
-OnBroke link_spent P = ⊤
-OnBroke (link_over end) P = ⊤
-OnBroke link_unkept P = ⊤
-OnBroke link_short P = ⊤
+OnBroke _ P = ⊤
 
 abbrev pub OnNotKept : LinkOutcome → Type 0 → Type 0
-OnNotKept link_closed P = ⊤
-OnNotKept link_broke P = ⊤
-OnNotKept link_spent P = ⊤
-OnNotKept (link_over end) P = ⊤
 OnNotKept link_unkept P = P
-OnNotKept link_short P = ⊤
+OnNotKept _ P = ⊤
 
 -- the link answered its end exactly where the connection is closed
 abbrev pub EndedSo : LinkOutcome → Bool → Type 0
 EndedSo link_closed is_over = is_over ≡ true
-EndedSo link_broke is_over = is_over ≡ false
-EndedSo link_spent is_over = is_over ≡ false
-EndedSo (link_over end) is_over = is_over ≡ false
-EndedSo link_unkept is_over = is_over ≡ false
-EndedSo link_short is_over = is_over ≡ false
+EndedSo _ is_over = is_over ≡ false
 
 abbrev pub IsSpent : LinkOutcome → Type 0 → Type 0
-IsSpent link_closed P = ⊤
-IsSpent link_broke P = ⊤
 IsSpent link_spent P = P
-IsSpent (link_over end) P = ⊤
-IsSpent link_unkept P = ⊤
-IsSpent link_short P = ⊤
+IsSpent _ P = ⊤
 
 -- a piece ends no connection so
 abbrev pub IsPieceEnd : LinkOutcome → Type 0
 IsPieceEnd link_closed = ⊥
-IsPieceEnd link_broke = ⊤
 IsPieceEnd link_spent = ⊥
-IsPieceEnd (link_over end) = ⊤
-IsPieceEnd link_unkept = ⊤
-IsPieceEnd link_short = ⊤
+IsPieceEnd _ = ⊤
 
 abbrev pub OnSome : Option LinkEnd → (LinkOutcome → Type 0) → Type 0
 OnSome None P = ⊤
@@ -126,27 +99,13 @@ OnSome (Some end) P = P (link_outcome end)
 -- a link was framed, or not for a fault or for want of memory
 abbrev pub OnFramed : Option LinkEnd → (framed same : Type 0) → Type 0
 OnFramed None framed same = framed
-OnFramed (Some ends.Closed) framed same = ⊥
 OnFramed (Some ends.LinkFault) framed same = same
-OnFramed (Some (ends.BadHead fault)) framed same = ⊥
-OnFramed (Some (ends.Refused reason)) framed same = ⊥
-OnFramed (Some (ends.TooLong n)) framed same = ⊥
-OnFramed (Some (ends.BadIpc fault message)) framed same = ⊥
-OnFramed (Some (ends.Stale current)) framed same = ⊥
-OnFramed (Some ends.NoLink) framed same = ⊥
-OnFramed (Some (ends.Ended cause)) framed same = ⊥
-OnFramed (Some ends.IdsSpent) framed same = ⊥
-OnFramed (Some ends.TurnsSpent) framed same = ⊥
-OnFramed (Some ends.KeepFault) framed same = ⊥
 OnFramed (Some ends.NoMemory) framed same = same
+OnFramed (Some _) framed same = ⊥
 
 abbrev pub OnNotShort : LinkOutcome → Type 0 → Type 0
-OnNotShort link_closed P = P
-OnNotShort link_broke P = P
-OnNotShort link_spent P = P
-OnNotShort (link_over end) P = P
-OnNotShort link_unkept P = P
 OnNotShort link_short P = ⊤
+OnNotShort _ P = P
 
 -- where memory did not run out, some head answers each front of the text
 abbrev pub LinkKnows : Option LinkEnd → List ℕ → Type 0
@@ -155,38 +114,42 @@ LinkKnows (Some end) text = OnNotShort (link_outcome end) (HasHead text)
 
 -- a link that could not be framed failed, or memory ran out
 abbrev pub CouldNotFrame : LinkOutcome → Type 0
-CouldNotFrame link_closed = ⊥
 CouldNotFrame link_broke = ⊤
-CouldNotFrame link_spent = ⊥
-CouldNotFrame (link_over end) = ⊥
-CouldNotFrame link_unkept = ⊥
 CouldNotFrame link_short = ⊤
+CouldNotFrame _ = ⊥
 
 abbrev pub UnableBy : Option LinkEnd → Type 0
 UnableBy None = ⊥
 UnableBy (Some end) = CouldNotFrame (link_outcome end)
 
--- what a piece makes of what is to come on its link: all stays, unless the link is framed as its head ends
-abbrev pub FramesBy : (before after : Bool) → Option LinkEnd → (front : List ℕ) → (old new : Incoming) → Type 0
-FramesBy true after end front old new = new ≡ old
-FramesBy false false end front old new = new ≡ old
-FramesBy false true None front old new = StartsPayload old new front
-FramesBy false true (Some end) front old new = CouldNotFrame (link_outcome end)
+-- a link is framed behind so many bytes that were sent, and handed this front of the framed stream, with which its payload starts
+pub record StartsFramed (front : List ℕ) (sent : ℕ) (old new : Incoming) : Type 0 where
+  pub payload : StartsPayload old new front
+  pub handed : new.framed ≡ Some (record { sent = sent; rest = front })
 
-abbrev pub Frames : Option LinkEnd → Head Upgrade HeadFault → (text piece : List ℕ) → (old new : Incoming) → Type 0
-Frames end head text piece old new =
-    FramesBy (is_framed head text) (is_framed head (with_piece head text piece)) end (drop head.size (text ++ piece)) old new
+-- what a piece makes of what is to come on its link: all stays, unless the link is framed as its head ends
+abbrev pub FramesBy : (before after : Bool) → Option LinkEnd → (front : List ℕ) → (sent : ℕ) → (old new : Incoming) → Type 0
+FramesBy true after end front sent old new = new ≡ old
+FramesBy false false end front sent old new = new ≡ old
+FramesBy false true None front sent old new = StartsFramed front sent old new
+FramesBy false true (Some end) front sent old new = CouldNotFrame (link_outcome end) × (new.framed ≡ old.framed)
+
+abbrev pub Frames : Option LinkEnd → Head Upgrade HeadFault → (text piece : List ℕ) → (sent : ℕ) → (old new : Incoming) → Type 0
+Frames end head text piece sent old new =
+    FramesBy (is_framed head text) (is_framed head (with_piece head text piece)) end (drop head.size (text ++ piece)) sent old new
 
 -- a count that is raised so often, or stands at the end of its type
 abbrev pub raised : ℕ → ℕ → ℕ
 raised zero count = count
 raised (suc n) count = next_count (raised n count)
 
--- the link was asked so often, at most `turns` times, and as often where they are spent
-pub record MadeCalls (end : LinkOutcome) (turns before now : ℕ) : Type 0 where
+-- the link was asked so often, at most `turns` times, and as often where they are spent; for so many bytes each time, since no call
+-- knows that it is the last
+pub record MadeCalls (end : LinkOutcome) (turns room : ℕ) (old new : Incoming) : Type 0 where
   pub reads : ℕ
   pub within : reads ≤ turns
-  pub counted : now ≡ raised reads before
+  pub counted : new.receives ≡ raised reads old.receives
+  pub asked : 0 < reads → new.room ≡ room
   pub spent : IsSpent end (reads ≡ turns)
 
 -- how many bytes a link gave, where it is not over
@@ -202,9 +165,7 @@ abbrev pub ReadsAre : LinkOutcome → (count reads turns : ℕ) → Type 0
 ReadsAre link_closed count reads turns = reads ≡ count + 1
 ReadsAre link_broke count reads turns = (count ≤ reads) × (reads ≤ count + 1)
 ReadsAre link_spent count reads turns = (reads ≡ count) × (reads ≡ turns)
-ReadsAre (link_over end) count reads turns = reads ≡ count
-ReadsAre link_unkept count reads turns = reads ≡ count
-ReadsAre link_short count reads turns = reads ≡ count
+ReadsAre _ count reads turns = reads ≡ count
 
 -- ---- what was done
 
@@ -272,11 +233,15 @@ AfterPiece (Some end) phase grounds head text next first sent stands jobs failed
 
 -- ---- the whole link
 
+-- how many bytes were sent on a link once all is sent that these pieces make it write
+abbrev pub sent_by : Grounds → Head Upgrade HeadFault → (start : Serving) → (first : List ℕ) → List Piece → ℕ
+sent_by grounds head start first pieces = length (first ++ (link_run grounds head [] pieces start).out)
+
 -- What a link did whose text has this head.
 pub record Ran (end : LinkEnd) (grounds : Grounds) (head : Head Upgrade HeadFault) (pieces : List Piece) (start : Serving) (first : List ℕ) (sent : Option (List ℕ)) (seat : Option Seat)
     (stands : Hub → Type 0) (jobs : Option (List SeenJob)) (failed : Type 0) (old new : Incoming) : Type 0 where
   pub ended : LinkEnds (link_outcome end) first sent seat stands jobs failed start (link_run grounds head [] pieces start)
-  pub came : Come head pieces old new (CouldNotFrame (link_outcome end))
+  pub came : Come head (sent_by grounds head start first) pieces old new (CouldNotFrame (link_outcome end))
 
 -- A link was served until this end: these pieces came, at the moments that the clock told, and the link did what they make. Where memory
 -- did not run out, what they make is known: their text has a head.
@@ -302,11 +267,8 @@ pub record IsServed (end : LinkEnd) (grounds : Grounds) (start : Serving) (first
 -- the link answered its end, or memory ran out
 abbrev pub ClosedOrShort : LinkOutcome → Type 0
 ClosedOrShort link_closed = ⊤
-ClosedOrShort link_broke = ⊥
-ClosedOrShort link_spent = ⊥
-ClosedOrShort (link_over end) = ⊥
-ClosedOrShort link_unkept = ⊥
 ClosedOrShort link_short = ⊤
+ClosedOrShort _ = ⊥
 
 -- It was served, and where the pieces that came make no end, and are fewer than the turns, the link answered its end or memory ran out.
 pub record IsComplete (end : LinkEnd) (grounds : Grounds) (start : Serving) (first : List ℕ) (moments : ℕ → ℕ) (turns : ℕ) (old new : Incoming) (sent : Option (List ℕ))
@@ -323,7 +285,7 @@ pub record SoFarAt (grounds : Grounds) (head : Head Upgrade HeadFault) (pieces :
   pub core : CoreStands phase grounds head (counted head [] pieces) (link_run grounds head [] pieces start).out next stands jobs [] (link_run grounds head [] pieces start)
   pub sent_is : sent ≡ Some (first ++ (link_run grounds head [] pieces start).out)
   pub happens : Happens start (link_run grounds head [] pieces start)
-  pub came : Come head pieces old new ⊥
+  pub came : Come head (sent_by grounds head start first) pieces old new ⊥
   pub behind : IsBehindHead phase head (counted head [] pieces)
 
 -- so many pieces were served, and the link goes on

@@ -1,11 +1,11 @@
 //! A whole connection over a link.
-ghost use Rattle.std.specs.Prelude.{◌≡◌, ◌≤◌, ◌<◌, ◌++◌, ℕ, Bool, true, false, List, [], Option, Some, None, length, IfOk};
+ghost use Rattle.std.specs.Prelude.{◌≡◌, ◌≤◌, ◌<◌, ◌++◌, ℕ, Bool, true, false, List, [], Option, Some, None, length, IfOk, IfSome};
 ghost use Rattle.ra_items.specs.Heads.{Head, IsRequestOf};
 ghost use Rattle.ra_upgrade.specs.declared.request_head.HeadFault.{HeadFault};
 ghost use Rattle.ra_upgrade.specs.declared.request_head.Upgrade.{Upgrade};
 ghost use Rattle.ra_opening.specs.Openings.{grounds_of};
 ghost use Rattle.ra_ports.specs.Causes.{Rose};
-ghost use Rattle.ra_ports.specs.Links.{StartsPayload};
+ghost use Rattle.ra_ports.specs.Links.{StartsPayload, IsHanded};
 ghost use Rattle.ra_base.specs.declared.key.Seat.{Seat};
 ghost use Rattle.ra_hub.specs.Hubs as spec;
 ghost use Rattle.ra_hub.specs.Jobs.{SeenJob};
@@ -79,10 +79,14 @@ fn frame_link<L: Link>(link: &mut L, core: &mut LinkCore) -> Option<LinkEnd>
     ensures framed { result ≡ None → NotHeld core.new }
     ensures payload { result ≡ None
         → OnHeld core.old (λ front. StartsPayload (L.incoming link.old) (L.incoming link.new) front) }
+    ensures handed { result ≡ None
+        → OnHeld core.old (λ front. IsHanded (L.sent link.old) (L.incoming link.new) front) }
+    ensures unframed { IfSome result (λ _. (L.incoming link.new).framed ≡ (L.incoming link.old).framed) }
     ensures seat { seat_in core.new ≡ seat_in core.old }
     ensures sent { L.sent link.new ≡ L.sent link.old }
     ensures ended { (L.incoming link.new).ended ≡ (L.incoming link.old).ended }
     ensures calls { (L.incoming link.new).receives ≡ (L.incoming link.old).receives }
+    ensures room { (L.incoming link.new).room ≡ (L.incoming link.old).room }
     ensures later { L.faults link.old ≤ L.faults link.new }
     ensures cause { OnSome result (λ end. OnBroke end (Rose (L.faults link.old) (L.faults link.new))) }
 {
@@ -119,6 +123,7 @@ fn serve_piece<L: Link, H: Hub, J: JobSink, E: Entropy, G: Signer>(
     ensures framed { result ≡ None → NotHeld core.new }
     ensures ended { (L.incoming link.new).ended ≡ (L.incoming link.old).ended }
     ensures calls { (L.incoming link.new).receives ≡ (L.incoming link.old).receives }
+    ensures room { (L.incoming link.new).room ≡ (L.incoming link.old).room }
     ensures later { L.faults link.old ≤ L.faults link.new }
     ensures cause { OnSome result (λ end. OnBroke end (Rose (L.faults link.old) (L.faults link.new))) }
     ensures kept_later { H.keep_faults hub.old ≤ H.keep_faults hub.new }
@@ -133,11 +138,14 @@ fn serve_piece<L: Link, H: Hub, J: JobSink, E: Entropy, G: Signer>(
         (L.sent link.new) (H.stands hub.new) (J.told jobs.new) (Rose (L.faults link.old) (L.faults link.new)) start
         (piece_done grounds head text (record { bytes = piece.now; now = now }) s) }
     ensures known { OnNoHead core.old (λ unread. LinkKnows result (unread ++ piece.now)) }
-    ensures came { (draw : ℕ → List ℕ) (head : Head Upgrade HeadFault) (text : List ℕ) (s : Serving)
+    ensures came { (draw : ℕ → List ℕ) (head : Head Upgrade HeadFault) (text first : List ℕ) (s : Serving)
         → IsRequestOf (text ++ piece.now) head → NotHeld core.old → IsBehindHead core.old head text
         → let grounds = grounds_of settings.now.shake (G.signature_of signer.now) (G.counts signer.now) draw in
         CoreStands core.old grounds head text s.out (E.draw entropy.old) (H.stands hub.old) (J.told jobs.old) [] s
-        → Frames result head text piece.now (L.incoming link.old) (L.incoming link.new) }
+        → L.sent link.old ≡ Some (first ++ s.out)
+        → Frames result head text piece.now
+        (length (first ++ (piece_done grounds head text (record { bytes = piece.now; now = now }) s).out))
+        (L.incoming link.old) (L.incoming link.new) }
 {
     let mut out = Vec::new(alloc);
     let end = core.piece(
@@ -199,7 +207,7 @@ fn serve_pieces<L: Link, H: Hub, J: JobSink, C: Clock, E: Entropy, G: Signer>(
     ensures kept { OnNotKept (link_outcome result.end) (Rose (H.keep_faults hub.old) (H.keep_faults hub.new)) }
     ensures ended { (L.incoming link.old).ended ≡ false
         → EndedSo (link_outcome result.end) (L.incoming link.new).ended }
-    ensures calls { MadeCalls (link_outcome result.end) turns (L.incoming link.old).receives (L.incoming link.new).receives }
+    ensures calls { MadeCalls (link_outcome result.end) turns (length into.old) (L.incoming link.old) (L.incoming link.new) }
     ensures made { (draw : ℕ → List ℕ) (first : List ℕ) (start : Serving) (moments : ℕ → ℕ)
         → let grounds = grounds_of settings.now.shake (G.signature_of signer.now) (G.counts signer.now) draw in
         Starts grounds start first moments (L.sent link.old) core.old (E.draw entropy.old) (H.stands hub.old)
@@ -241,8 +249,9 @@ fn make_buffer(alloc: Global, len: usize) -> Result<Vec<u8>, AllocError>
 /// Serves a connection over a link, from its first byte to its end.
 ///
 /// The link is asked at most `turns` times, for 65,536 bytes each time, and the clock is read once after each time. All that is
-/// answered to a piece is sent before the next one is asked for. The seat that the connection got is spent when this returns: its
-/// session is closed where the client left or sent a bad message, and else the link is reported lost.
+/// answered to a piece is sent before the next one is asked for. Where the head asks for WebSocket messages, the link goes over to
+/// frames once the answer to the head is sent, and is handed all that was read behind the head. The seat that the connection got is
+/// spent when this returns: its session is closed where the client left or sent a bad message, and else the link is reported lost.
 pub fn serve_link<L: Link, H: Hub, J: JobSink, C: Clock, E: Entropy, G: Signer>(
     alloc: Global,
     link: &mut L,
@@ -258,7 +267,7 @@ pub fn serve_link<L: Link, H: Hub, J: JobSink, C: Clock, E: Entropy, G: Signer>(
     ensures cause { OnBroke (link_outcome result) (Rose (L.faults link.old) (L.faults link.new)) }
     ensures kept { OnNotKept (link_outcome result) (Rose (H.keep_faults hub.old) (H.keep_faults hub.new)) }
     ensures ended { (L.incoming link.old).ended ≡ false → EndedSo (link_outcome result) (L.incoming link.new).ended }
-    ensures calls { MadeCalls (link_outcome result) turns (L.incoming link.old).receives (L.incoming link.new).receives }
+    ensures calls { MadeCalls (link_outcome result) turns 65536 (L.incoming link.old) (L.incoming link.new) }
     ensures made { (first : List ℕ) (h : spec.Hub) (js : List SeenJob)
         → L.sent link.old ≡ Some first → H.stands hub.old h → J.told jobs.old ≡ Some js → C.tells clock.old ≡ true
         → IsServed result

@@ -1,6 +1,6 @@
 -- One piece of a link.
 use Rattle.std.proofs.Common.{◌≡◌, ℕ, ◌+◌, ◌-◌, ◌<◌, ◌≤◌, Bool, true, false, Option, Some, None, List, [], ◌++◌, length, take, drop, inl, inr, refl, sym, ap, subst, ◌∙◌, append_assoc, arith, rules}
-use Rattle.std.specs.Prelude.{⊤, nat_lt}
+use Rattle.std.specs.Prelude.{⊤, nat_lt, IsSome}
 use Rattle.std.proofs.lemmas.Bool.{ltb-true, ltb-false}
 use Rattle.std.proofs.lemmas.List.{length-append, length-take-le, take-append-drop}
 use Rattle.ra_base.specs.declared.handshake.Request.{Request}
@@ -27,7 +27,7 @@ use Rattle.ra_hub.specs.Jobs.{SeenJob}
 use Rattle.ra_link_core.specs.LinkRuns as runs
 use Rattle.ra_link_core.specs.LinkRuns.{Serving, End, Piece, asked, opening_by, opening_came, piece_by, piece_done, with_piece, served, turns_for}
 use Rattle.ra_link_core.specs.Makes.{Outcome, goes, over, unkept, short, Happens, Grows, Writes, IsGoing, IsEnded, IsShort, Makes, outcome_of, opening_end, IsSeated, IsSeatedIn}
-use Rattle.ra_link_core.specs.Cores.{IsOpening, CoreStands, CoreMakes, NotHeld, OnHeld, IsBehindHead, counted_in, base_of, phase_of}
+use Rattle.ra_link_core.specs.Cores.{IsOpening, CoreStands, CoreMakes, NotHeld, OnHeld, IsBehindHead, counted_in, base_of, phase_of, IsDone}
 use Rattle.ra_link_core.specs.declared.ends.CoreEnd.{CoreEnd}
 use Rattle.ra_link_core.specs.declared.ends.CoreEnd.TheVariants as ends
 use Rattle.ra_link_core.specs.declared.phase.Phase.{Phase}
@@ -182,12 +182,12 @@ asks_serves opening g head text piece before next next' stands jobs out out' req
 
 -- ---- where it stands
 
-core_seated : (o : Outcome) (seat : Seat) (g : Grounds) (head : Head Upgrade HeadFault) (text before : List ℕ) (next : ℕ → List ℕ) (stands : Hub → Type 0) (jobs : Option (List SeenJob)) (out : List ℕ) (s u : Serving)
-    → Makes o (Some seat) stands jobs (base_of g before next) out s u → CoreMakes o (phases.Seated seat) g head text before next stands jobs out s u
-core_seated goes seat g head text before next stands jobs out s u makes = makes
-core_seated (over e) seat g head text before next stands jobs out s u makes = makes
-core_seated unkept seat g head text before next stands jobs out s u makes = makes
-core_seated short seat g head text before next stands jobs out s u makes = makes
+core_ended : (o : Outcome) (seat : Seat) (g : Grounds) (head : Head Upgrade HeadFault) (text before : List ℕ) (next : ℕ → List ℕ) (stands : Hub → Type 0) (jobs : Option (List SeenJob)) (out : List ℕ) (s u : Serving)
+    → (o ≡ goes → ⊥) → Makes o (Some seat) stands jobs (base_of g before next) out s u → CoreMakes o (phases.Ended seat) g head text before next stands jobs out s u
+core_ended goes seat g head text before next stands jobs out s u ends makes = absurd (ends refl)
+core_ended (over e) seat g head text before next stands jobs out s u ends makes = makes
+core_ended unkept seat g head text before next stands jobs out s u ends makes = makes
+core_ended short seat g head text before next stands jobs out s u ends makes = makes
 
 core_over : (o : Outcome) (g : Grounds) (head : Head Upgrade HeadFault) (text before : List ℕ) (next : ℕ → List ℕ) (stands : Hub → Type 0) (jobs : Option (List SeenJob)) (out : List ℕ) (s u : Serving)
     → (o ≡ goes → ⊥) → Makes o None stands jobs (base_of g before next) out s u → CoreMakes o phases.Over g head text before next stands jobs out s u
@@ -210,14 +210,15 @@ never_goes ends.NoMemory is = absurd cc
 
 core_by : (seat : Option Seat) (end : Option CoreEnd) (g : Grounds) (head : Head Upgrade HeadFault) (text before : List ℕ) (next : ℕ → List ℕ) (stands : Hub → Type 0) (jobs : Option (List SeenJob)) (out : List ℕ) (s u : Serving)
     → IsSeatedIn seat end → Makes (outcome_of end) seat stands jobs (base_of g before next) out s u
-    → CoreMakes (outcome_of end) (phase_of seat) g head text before next stands jobs out s u
-core_by (Some seat) end g head text before next stands jobs out s u seated makes = core_seated (outcome_of end) seat g head text before next stands jobs out s u makes
+    → CoreMakes (outcome_of end) (phase_of seat end) g head text before next stands jobs out s u
+core_by (Some seat) None g head text before next stands jobs out s u seated makes = makes
+core_by (Some seat) (Some e) g head text before next stands jobs out s u seated makes = core_ended (outcome_of (Some e)) seat g head text before next stands jobs out s u (never_goes e) makes
 core_by None None g head text before next stands jobs out s u seated makes = absurd seated
 core_by None (Some e) g head text before next stands jobs out s u seated makes = core_over (outcome_of (Some e)) g head text before next stands jobs out s u (never_goes e) makes
 
 pub core_of_step : (step : Step) (g : Grounds) (head : Head Upgrade HeadFault) (text before : List ℕ) (next : ℕ → List ℕ) (stands : Hub → Type 0) (jobs : Option (List SeenJob)) (out : List ℕ) (s u : Serving)
     → IsSeated step → Makes (outcome_of step.end) step.seat stands jobs (base_of g before next) out s u
-    → CoreMakes (outcome_of step.end) (phase_of step.seat) g head text before next stands jobs out s u
+    → CoreMakes (outcome_of step.end) (phase_of step.seat step.end) g head text before next stands jobs out s u
 core_of_step step g head text before next stands jobs out s u seated makes = core_by step.seat step.end g head text before next stands jobs out s u seated makes
 
 -- ---- the opening is over
@@ -396,6 +397,7 @@ pub piece_happens : (phase : Phase) (g : Grounds) (head : Head Upgrade HeadFault
 piece_happens (phases.Opening opening) g head text before next stands jobs out piece s x = opening_happens opening g head text before next stands jobs out piece s x
 piece_happens (phases.Seated seat) g head text before next stands jobs out piece s x =
     subst (λ (w : Serving). Happens s w) (sym (piece_seated g head text piece seat s x.seat_is x.end_is)) (grows_served (turns_for piece.bytes) seat piece.bytes piece.now s).happens
+piece_happens (phases.Ended seat) g head text before next stands jobs out piece s x = absurd x
 piece_happens phases.Over g head text before next stands jobs out piece s x = absurd x
 
 -- ---- a link that has a seat is behind its head
@@ -420,6 +422,7 @@ seat_judged (phases.Opening opening) g head text before next stands jobs out pie
     (sym (ap (λ (u : Serving). u.seat) (piece_opening g head text piece s x.going.seat_is x.going.end_is)) ∙ seated) x.going.seat_is
 seat_judged (phases.Seated own) g head text before next stands jobs out piece seat s x behind seated =
     ap (λ (t : List ℕ). nat_lt (length t) head.size) (behind_counts head text piece.bytes behind) ∙ still_judged head text piece.bytes behind
+seat_judged (phases.Ended own) g head text before next stands jobs out piece seat s x behind seated = absurd x
 seat_judged phases.Over g head text before next stands jobs out piece seat s x behind seated = absurd x
 
 pub behind_more : (old new : Phase) (g : Grounds) (head : Head Upgrade HeadFault) (text before before' : List ℕ) (next next' : ℕ → List ℕ) (stands stands' : Hub → Type 0) (jobs jobs' : Option (List SeenJob)) (out out' : List ℕ) (piece : Piece) (s : Serving)
@@ -429,14 +432,23 @@ pub behind_more : (old new : Phase) (g : Grounds) (head : Head Upgrade HeadFault
 behind_more old (phases.Opening opening) g head text before before' next next' stands stands' jobs jobs' out out' piece s x behind y = tt
 behind_more old (phases.Seated seat) g head text before before' next next' stands stands' jobs jobs' out out' piece s x behind y =
     seat_judged old g head text before next stands jobs out piece seat s x behind y.seat_is
+behind_more old (phases.Ended seat) g head text before before' next next' stands stands' jobs jobs' out out' piece s x behind y = tt
 behind_more old phases.Over g head text before before' next next' stands stands' jobs jobs' out out' piece s x behind y = tt
 
 -- ---- a link with a seat is not to be framed
 
-pub seat_free : (seat : Option Seat) → NotHeld (phase_of seat)
-seat_free None = tt
-seat_free (Some seat) = tt
+pub seat_free : (seat : Option Seat) (end : Option CoreEnd) → NotHeld (phase_of seat end)
+seat_free None end = tt
+seat_free (Some seat) None = tt
+seat_free (Some seat) (Some e) = tt
 
-pub seat_past : (seat : Option Seat) (P : List ℕ → Type 0) → OnHeld (phase_of seat) P
-seat_past None P = tt
-seat_past (Some seat) P = tt
+pub seat_past : (seat : Option Seat) (end : Option CoreEnd) (P : List ℕ → Type 0) → OnHeld (phase_of seat end) P
+seat_past None end P = tt
+seat_past (Some seat) None P = tt
+seat_past (Some seat) (Some e) P = tt
+
+-- a link that has ended is done
+pub seat_done : (seat : Option Seat) (end : Option CoreEnd) → IsSome end → IsDone (phase_of seat end)
+seat_done None end some = tt
+seat_done (Some seat) None some = absurd cc
+seat_done (Some seat) (Some e) some = tt

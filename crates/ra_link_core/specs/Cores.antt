@@ -13,18 +13,21 @@ use Rattle.ra_hub.specs.Hubs.{Hub}
 use Rattle.ra_hub.specs.Jobs.{SeenJob}
 use Rattle.ra_link_core.specs.LinkRuns.{Serving}
 use Rattle.ra_link_core.specs.Makes.{Base, IsGoing, IsEnded, IsUnkept, IsShort, Outcome, goes, over, unkept, short}
+use Rattle.ra_link_core.specs.declared.ends.CoreEnd.{CoreEnd}
 use Rattle.ra_link_core.specs.declared.phase.Phase.{Phase}
 use Rattle.ra_link_core.specs.declared.phase.Phase.TheVariants as phases
 
 abbrev pub seat_in : Phase → Option Seat
 seat_in (phases.Opening opening) = None
 seat_in (phases.Seated seat) = Some seat
+seat_in (phases.Ended seat) = Some seat
 seat_in phases.Over = None
 
 -- an opening in a link is not over
 abbrev pub IsFit : Phase → Type 0
 IsFit (phases.Opening opening) = IsOpen opening
 IsFit (phases.Seated seat) = ⊤
+IsFit (phases.Ended seat) = ⊤
 IsFit phases.Over = ⊤
 
 -- the text that counts, of all that was read: without the front of a framed stream that is unread
@@ -50,18 +53,21 @@ pub record IsOpening (opening : OpeningState) (grounds : Grounds) (head : Head U
 abbrev pub CoreStands : Phase → Grounds → Head Upgrade HeadFault → (text before : List ℕ) → (next : ℕ → List ℕ) → (Hub → Type 0) → Option (List SeenJob) → (out : List ℕ) → Serving → Type 0
 CoreStands (phases.Opening opening) grounds head text before next stands jobs out s = IsOpening opening grounds head text before next stands jobs out s
 CoreStands (phases.Seated seat) grounds head text before next stands jobs out s = IsGoing (Some seat) stands jobs (base_of grounds before next) out s
+CoreStands (phases.Ended seat) grounds head text before next stands jobs out s = ⊥
 CoreStands phases.Over grounds head text before next stands jobs out s = ⊥
 
 -- no link waits to be framed
 abbrev pub NotHeld : Phase → Type 0
 NotHeld (phases.Opening opening) = NeedsFraming opening.phase → ⊥
 NotHeld (phases.Seated seat) = ⊤
+NotHeld (phases.Ended seat) = ⊤
 NotHeld phases.Over = ⊤
 
 -- a link waits to be framed
 abbrev pub IsHeld : Phase → Type 0
 IsHeld (phases.Opening opening) = NeedsFraming opening.phase
 IsHeld (phases.Seated seat) = ⊥
+IsHeld (phases.Ended seat) = ⊥
 IsHeld phases.Over = ⊥
 
 -- it does, or memory ran out
@@ -75,24 +81,28 @@ HeldOrShort short phase = ⊤
 abbrev pub IsHeldWith : Phase → List ℕ → Type 0
 IsHeldWith (phases.Opening opening) rest = NeedsFraming opening.phase × (rest ≡ opening.reader.unread)
 IsHeldWith (phases.Seated seat) rest = ⊥
+IsHeldWith (phases.Ended seat) rest = ⊥
 IsHeldWith phases.Over rest = ⊥
 
 -- the front of the framed stream, where a link waits to be framed
 abbrev pub OnHeld : Phase → (List ℕ → Type 0) → Type 0
 OnHeld (phases.Opening opening) P = NeedsFraming opening.phase → P opening.reader.unread
 OnHeld (phases.Seated seat) P = ⊤
+OnHeld (phases.Ended seat) P = ⊤
 OnHeld phases.Over P = ⊤
 
 -- the head was read and its link framed, where that had to be
 abbrev pub IsPastHead : Phase → Type 0
 IsPastHead (phases.Opening opening) = IsInShake opening.phase
 IsPastHead (phases.Seated seat) = ⊤
+IsPastHead (phases.Ended seat) = ⊤
 IsPastHead phases.Over = ⊤
 
 -- the head of a link with a seat has ended in its text
 abbrev pub IsBehindHead : Phase → Head Upgrade HeadFault → List ℕ → Type 0
 IsBehindHead (phases.Opening opening) head text = ⊤
 IsBehindHead (phases.Seated seat) head text = nat_lt (length text) head.size ≡ false
+IsBehindHead (phases.Ended seat) head text = ⊤
 IsBehindHead phases.Over head text = ⊤
 
 -- the opening has read the text that counts, and no more
@@ -103,11 +113,13 @@ OpeningFramed old new = (grounds : Grounds) (head : Head Upgrade HeadFault) (raw
 abbrev pub SetsFramedIn : OpeningState → Phase → Type 0
 SetsFramedIn old (phases.Opening new) = OpeningFramed old new
 SetsFramedIn old (phases.Seated seat) = ⊥
+SetsFramedIn old (phases.Ended seat) = ⊥
 SetsFramedIn old phases.Over = ⊥
 
 abbrev pub SetsFramed : Phase → Phase → Type 0
 SetsFramed (phases.Opening old) new = SetsFramedIn old new
 SetsFramed (phases.Seated seat) new = ⊥
+SetsFramed (phases.Ended seat) new = ⊥
 SetsFramed phases.Over new = ⊥
 
 -- what a piece makes of a link
@@ -128,14 +140,25 @@ KnowsHead short text = ⊤
 abbrev pub OnNoHead : Phase → (List ℕ → Type 0) → Type 0
 OnNoHead (phases.Opening opening) P = HasNoHead opening → P opening.reader.unread
 OnNoHead (phases.Seated seat) P = ⊤
+OnNoHead (phases.Ended seat) P = ⊤
 OnNoHead phases.Over P = ⊤
 
-abbrev pub phase_of : Option Seat → Phase
-phase_of None = phases.Over
-phase_of (Some seat) = phases.Seated seat
+-- how far a link is that has this seat, or has ended with it
+abbrev pub phase_of : Option Seat → Option CoreEnd → Phase
+phase_of None end = phases.Over
+phase_of (Some seat) None = phases.Seated seat
+phase_of (Some seat) (Some end) = phases.Ended seat
 
--- a link that needs no more goes on to be nothing
+-- it has ended
+abbrev pub IsDone : Phase → Type 0
+IsDone (phases.Opening opening) = ⊥
+IsDone (phases.Seated seat) = ⊥
+IsDone (phases.Ended seat) = ⊤
+IsDone phases.Over = ⊤
+
+-- a link that has ended does no more
 abbrev pub OnOver : Phase → Type 0 → Type 0
 OnOver (phases.Opening opening) P = ⊤
 OnOver (phases.Seated seat) P = ⊤
+OnOver (phases.Ended seat) P = P
 OnOver phases.Over P = P

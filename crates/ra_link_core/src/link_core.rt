@@ -1,5 +1,5 @@
 //! One connection, piece by piece.
-ghost use Rattle.std.specs.Prelude.{◌≡◌, ◌++◌, ℕ, List, None, MatchOption};
+ghost use Rattle.std.specs.Prelude.{◌≡◌, ◌++◌, ℕ, List, None, IsSome, MatchOption};
 ghost use Rattle.ra_items.specs.Heads.{Head, IsRequestOf};
 ghost use Rattle.ra_upgrade.specs.declared.request_head.HeadFault.{HeadFault};
 ghost use Rattle.ra_upgrade.specs.declared.request_head.Upgrade.{Upgrade};
@@ -9,7 +9,7 @@ ghost use Rattle.ra_opening.specs.Stands.{HasNoHead, IsOpen, IsInShake, NeedsFra
 ghost use Rattle.ra_hub.specs.Hubs as spec;
 ghost use Rattle.ra_link_core.specs.LinkRuns.{Serving, piece_done, with_piece, hub_left};
 ghost use Rattle.ra_link_core.specs.Makes.{Holds, Balance, HasEndCause, outcome_of, opening_end};
-ghost use Rattle.ra_link_core.specs.Cores.{IsFit, IsOpening, CoreStands, CoreMakes, NotHeld, KnowsHead, OnNoHead, OnOver, HeldOrShort, IsHeld, IsHeldWith, IsPastHead, OnHeld, SetsFramed, seat_in, phase_of};
+ghost use Rattle.ra_link_core.specs.Cores.{IsFit, IsOpening, CoreStands, CoreMakes, NotHeld, KnowsHead, OnNoHead, OnOver, HeldOrShort, IsHeld, IsHeldWith, IsPastHead, OnHeld, SetsFramed, seat_in, phase_of, IsDone};
 
 use crate::ask::ask;
 use crate::ends::CoreEnd;
@@ -52,24 +52,25 @@ fn opening_end(end: OpeningEnd) -> CoreEnd
     }
 }
 
-/// How far a link with that seat is.
-fn phase_of(seat: Option<Seat>) -> Phase
-    ensures { result ≡ phase_of seat }
+/// How far a link with that seat is, which has ended or not.
+fn phase_of(seat: Option<Seat>, end: &Option<CoreEnd>) -> Phase
+    ensures { result ≡ phase_of seat end.now }
 {
     match seat {
-        Some(seat) => Phase::Seated { seat },
+        Some(seat) => match end {
+            Some(_) => Phase::Ended { seat },
+            None => Phase::Seated { seat },
+        },
         None => Phase::Over,
     }
 }
 
 fn after_step(step: Step) -> After
-    ensures { result ≡ record { phase = phase_of step.seat; end = step.end } }
+    ensures { result ≡ record { phase = phase_of step.seat step.end; end = step.end } }
 {
     let Step { seat, end } = step;
-    After {
-        phase: phase_of(seat),
-        end,
-    }
+    let phase = phase_of(seat, &end);
+    After { phase, end }
 }
 
 /// A piece of an opening.
@@ -90,6 +91,7 @@ fn open_piece<H: Hub, J: JobSink, E: Entropy, G: Signer>(
     ensures holds { Holds (H.seats hub.new) (seat_in result.phase) }
     ensures seats { Balance None (H.seats hub.old) (seat_in result.phase) (H.seats hub.new) }
     ensures cause { HasEndCause (H.keep_faults hub.old) (H.keep_faults hub.new) result.end }
+    ensures done { IsSome result.end → IsDone result.phase }
     ensures made { (draw : ℕ → List ℕ) (head : Head Upgrade HeadFault) (text before : List ℕ) (s : Serving)
         → IsRequestOf (text ++ piece.now) head → (NeedsFraming opening.phase → ⊥)
         → let grounds = grounds_of settings.now.shake (G.signature_of signer.now) (G.counts signer.now) draw in
@@ -161,7 +163,9 @@ fn take_piece<H: Hub, J: JobSink, E: Entropy, G: Signer>(
         CoreStands phase grounds head text before (E.draw entropy.old) (H.stands hub.old) (J.told jobs.old)
         out.old.items s
         → OnHeld result.phase (λ front. text ++ piece.now ≡ with_piece head text piece.now ++ front) }
-    ensures over { OnOver phase ((result ≡ record { phase = Phase.Over; end = None }) × (out.new.items ≡ out.old.items)) }
+    ensures over { OnOver phase ((result ≡ record { phase = phase; end = None }) × (out.new.items ≡ out.old.items)
+        × (hub.new ≡ hub.old) × (jobs.new ≡ jobs.old)) }
+    ensures done { IsSome result.end → IsDone result.phase }
 {
     match phase {
         Phase::Opening { opening } => open_piece(
@@ -177,6 +181,10 @@ fn take_piece<H: Hub, J: JobSink, E: Entropy, G: Signer>(
             now,
             out,
         )),
+        Phase::Ended { seat } => After {
+            phase: Phase::Ended { seat },
+            end: None,
+        },
         Phase::Over => After {
             phase: Phase::Over,
             end: None,
@@ -252,7 +260,10 @@ impl LinkCore {
             CoreStands self.old grounds head text before (E.draw entropy.old) (H.stands hub.old) (J.told jobs.old)
             out.old.items s
             → OnHeld self.new (λ front. text ++ piece.now ≡ with_piece head text piece.now ++ front) }
-        ensures over { OnOver self.old ((result ≡ None) × (self.new ≡ self.old) × (out.new.items ≡ out.old.items)) }
+        // after an end it does nothing more
+        ensures over { OnOver self.old ((result ≡ None) × (self.new ≡ self.old) × (out.new.items ≡ out.old.items)
+            × (hub.new ≡ hub.old) × (jobs.new ≡ jobs.old)) }
+        ensures done { IsSome result → IsDone self.new }
     {
         let phase = mem::replace(&mut self.phase, Phase::Over);
         let after = take_piece(
@@ -270,7 +281,7 @@ impl LinkCore {
     {
         match &self.phase {
             Phase::Opening { opening } => framing_of(opening),
-            Phase::Seated { seat: _ } | Phase::Over => None,
+            Phase::Seated { seat: _ } | Phase::Ended { seat: _ } | Phase::Over => None,
         }
     }
 
@@ -283,7 +294,7 @@ impl LinkCore {
     {
         match &mut self.phase {
             Phase::Opening { opening } => opening.set_framed(),
-            Phase::Seated { seat: _ } | Phase::Over => unreachable!(),
+            Phase::Seated { seat: _ } | Phase::Ended { seat: _ } | Phase::Over => unreachable!(),
         }
     }
 
@@ -320,6 +331,7 @@ fn leave_in<H: Hub>(phase: Phase, hub: &mut H, now: Moment)
 {
     match phase {
         Phase::Seated { seat } => hub.lost(seat, now),
+        Phase::Ended { seat } => hub.lost(seat, now),
         Phase::Opening { opening } => drop(opening),
         Phase::Over => {}
     }

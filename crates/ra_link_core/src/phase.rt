@@ -9,6 +9,8 @@ pub(crate) enum Phase {
     Opening { opening: Opening },
     /// The link has a session.
     Seated { seat: Seat },
+    /// Nothing. It has ended, and its seat is not spent.
+    Ended { seat: Seat },
     /// Nothing.
     Over,
 }

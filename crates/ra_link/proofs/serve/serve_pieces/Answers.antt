@@ -18,6 +18,7 @@ loop-turn-init g c = (
   refl,
   λ draw first start moments starts.
       starts_there (grounds_of c.args.settings.now.shake (g.G.Signer.signature_of c.args.signer.now) (g.G.Signer.counts c.args.signer.now) draw) start first moments _ _ c.args.core.now _ _ _ _ _ _ starts,
+  λ some. absurd (omega (arith, some)),
 )
 
 pub returns-in-Err-clause-calls : goal.returns-in-Err-clause-calls
@@ -27,6 +28,7 @@ returns-in-Err-clause-calls g c =
       reads = c.loop-turn.turn + 1;
       within = omega (arith, c.loop-turn-test.true);
       counted = c.in-Err.ensures.counted ∙ ap next_count c.loop-turn.invariant.6 ∙ sym (raised_more c.loop-turn.turn _);
+      asked = λ some. c.in-Err.ensures.room ∙ c.loop-turn.auto.into;
       spent = tt;
     })
 
@@ -38,7 +40,7 @@ returns-in-Err-clause-made g c = λ draw first start moments starts.
     (failed_there c.loop-turn.turn c.args.turns grounds start first moments (g.L.Link.incoming c.args.link.now) (g.L.Link.incoming c.loop-turn.link) (g.L.Link.incoming c.recv-got.new.self)
     (g.L.Link.sent c.loop-turn.link) (g.L.Link.sent c.recv-got.new.self) c.loop-turn.core (g.E.Entropy.draw c.loop-turn.entropy) (g.H.Hub.stands c.loop-turn.hub) (g.J.JobSink.told c.loop-turn.jobs)
     (g.C.Clock.tells c.loop-turn.clock) (g.C.Clock.moment c.loop-turn.clock) c.loop-turn.now (Rose (g.L.Link.faults c.args.link.now) (g.L.Link.faults c.recv-got.new.self)) c.now-now.result s
-    c.loop-turn-test.true c.now-now.ensures.value c.in-Err.ensures.keeps c.in-Err.ensures.bytes c.in-Err.ensures.payload)
+    c.loop-turn-test.true c.now-now.ensures.value c.in-Err.ensures.keeps c.in-Err.ensures.bytes c.in-Err.ensures.payload c.in-Err.ensures.framed)
 
 pub returns-in-None-clause-calls : goal.returns-in-None-clause-calls
 returns-in-None-clause-calls g c =
@@ -47,6 +49,7 @@ returns-in-None-clause-calls g c =
       reads = c.loop-turn.turn + 1;
       within = omega (arith, c.loop-turn-test.true);
       counted = c.in-Ok.ensures.counted ∙ ap next_count c.loop-turn.invariant.6 ∙ sym (raised_more c.loop-turn.turn _);
+      asked = λ some. c.in-Ok.ensures.room ∙ c.loop-turn.auto.into;
       spent = tt;
     })
 
@@ -59,7 +62,7 @@ returns-in-None-clause-made g c = λ draw first start moments starts.
     (closed_there c.loop-turn.turn c.args.turns grounds start first moments (g.L.Link.incoming c.args.link.now) (g.L.Link.incoming c.loop-turn.link) (g.L.Link.incoming c.recv-got.new.self)
     (g.L.Link.sent c.loop-turn.link) (g.L.Link.sent c.recv-got.new.self) c.loop-turn.core (g.E.Entropy.draw c.loop-turn.entropy) (g.H.Hub.stands c.loop-turn.hub) (g.J.JobSink.told c.loop-turn.jobs)
     (g.C.Clock.tells c.loop-turn.clock) (g.C.Clock.moment c.loop-turn.clock) c.loop-turn.now (Rose (g.L.Link.faults c.args.link.now) (g.L.Link.faults c.recv-got.new.self)) c.now-now.result s
-    c.loop-turn-test.true c.now-now.ensures.value c.in-Ok.ensures.keeps took c.in-Ok.ensures.payload)
+    c.loop-turn-test.true c.now-now.ensures.value c.in-Ok.ensures.keeps took c.in-Ok.ensures.payload c.in-Ok.ensures.framed)
 
 pub returns-in-Some-serve_piece-clause-calls : goal.returns-in-Some-serve_piece-clause-calls
 returns-in-Some-serve_piece-clause-calls g c =
@@ -68,6 +71,7 @@ returns-in-Some-serve_piece-clause-calls g c =
       reads = c.loop-turn.turn + 1;
       within = omega (arith, c.loop-turn-test.true);
       counted = c.serve_piece.ensures.calls ∙ c.in-Ok.ensures.counted ∙ ap next_count c.loop-turn.invariant.6 ∙ sym (raised_more c.loop-turn.turn _);
+      asked = λ some. c.serve_piece.ensures.room ∙ c.in-Ok.ensures.room ∙ c.loop-turn.auto.into;
       spent = never_spent _ (link_outcome c.in-Some-serve_piece.end) c.in-Some-serve_piece.ensures.never;
     })
 
@@ -92,10 +96,11 @@ returns-in-Some-serve_piece-clause-made g c = λ draw first start moments starts
           (c.in-Some-serve_piece.ensures.made draw head text first begin v is c.loop-turn.invariant.2 stands (c.in-Ok.ensures.keeps ∙ sent) happens);
       took = took;
       keeps = c.in-Ok.ensures.payload;
+      stays = c.in-Ok.ensures.framed;
       goes = λ going. c.in-Ok.ensures.ended ∙ got_goes c.in-Ok.got n _ (sym c.in-Some.ensures) ∙ c.loop-turn.invariant.5 going;
       free = c.loop-turn.invariant.2;
       known = c.in-Some-serve_piece.ensures.known;
-      came = λ head text v is stands behind. c.in-Some-serve_piece.ensures.came draw head text v is c.loop-turn.invariant.2 behind stands;
+      came = λ head text v is stands behind sent. c.in-Some-serve_piece.ensures.came draw head text first v is c.loop-turn.invariant.2 behind stands (c.in-Ok.ensures.keeps ∙ sent);
     } in
     rw c.ending_at-in-Some-serve_piece.ensures
     (ended_there c.in-Some-serve_piece.end c.loop-turn.turn c.args.turns grounds start first moments (g.L.Link.incoming c.args.link.now) (g.L.Link.incoming c.loop-turn.link) (g.L.Link.incoming c.recv-got.new.self) (g.L.Link.incoming c.serve_piece.new.link)
@@ -133,10 +138,11 @@ loop-turn-preserved g c = (
             (c.in-None-serve_piece.ensures.made draw head text first begin v is c.loop-turn.invariant.2 stands (c.in-Ok.ensures.keeps ∙ sent) happens);
         took = took;
         keeps = c.in-Ok.ensures.payload;
+        stays = c.in-Ok.ensures.framed;
         goes = λ going. c.in-Ok.ensures.ended ∙ got_goes c.in-Ok.got n _ (sym c.in-Some.ensures) ∙ c.loop-turn.invariant.5 going;
         free = c.loop-turn.invariant.2;
         known = c.in-None-serve_piece.ensures.known;
-        came = λ head text v is stands behind. c.in-None-serve_piece.ensures.came draw head text v is c.loop-turn.invariant.2 behind stands;
+        came = λ head text v is stands behind sent. c.in-None-serve_piece.ensures.came draw head text first v is c.loop-turn.invariant.2 behind stands (c.in-Ok.ensures.keeps ∙ sent);
       } in
       goes_there c.loop-turn.turn grounds start first moments (g.L.Link.incoming c.args.link.now) (g.L.Link.incoming c.loop-turn.link) (g.L.Link.incoming c.recv-got.new.self) (g.L.Link.incoming c.serve_piece.new.link)
       (g.L.Link.sent c.loop-turn.link) (g.L.Link.sent c.serve_piece.new.link) c.loop-turn.core c.serve_piece.new.core (g.E.Entropy.draw c.loop-turn.entropy) (g.E.Entropy.draw c.serve_piece.new.entropy)
@@ -144,6 +150,7 @@ loop-turn-preserved g c = (
       (g.C.Clock.tells c.loop-turn.clock) (g.C.Clock.tells c.now-now.new.self) (g.C.Clock.moment c.loop-turn.clock) (g.C.Clock.moment c.now-now.new.self) c.loop-turn.now
       (Rose (g.L.Link.faults c.args.link.now) (g.L.Link.faults c.serve_piece.new.link)) piece c.now-now.result s
       c.now-now.ensures.value c.now-now.ensures.keeps c.now-now.ensures.after came,
+  λ some. c.serve_piece.ensures.room ∙ c.in-Ok.ensures.room ∙ sym c.recv-got.auto.into,
 )
 
 pub returns-clause-made : goal.returns-clause-made

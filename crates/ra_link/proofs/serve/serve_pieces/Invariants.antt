@@ -1,4 +1,4 @@
-use Rattle.std.proofs.Common.{◌≡◌, ◌≤◌, ℕ, false, List}
+use Rattle.std.proofs.Common.{◌≡◌, ◌<◌, ◌≤◌, ℕ, false, List, length}
 use Rattle.ra_opening.specs.Openings.{grounds_of}
 use Rattle.ra_link_core.specs.LinkRuns.{Serving}
 use Rattle.ra_link_core.specs.Makes.{Holds, Balance}
@@ -18,3 +18,4 @@ invariant-loop-turn g l = Holds (g.H.Hub.seats l.hub) (seat_in l.core)
     → let grounds = grounds_of l.settings.shake (g.G.Signer.signature_of l.signer) (g.G.Signer.counts l.signer) draw in
     Starts grounds start first moments (g.L.Link.sent l.fn.link) l.fn.core (g.E.Entropy.draw l.fn.entropy) (g.H.Hub.stands l.fn.hub) (g.J.JobSink.told l.fn.jobs) (g.C.Clock.tells l.fn.clock) (g.C.Clock.moment l.fn.clock)
     → SoFar l.turn grounds start first moments (g.L.Link.incoming l.fn.link) (g.L.Link.incoming l.link) (g.L.Link.sent l.link) l.core (g.E.Entropy.draw l.entropy) (g.H.Hub.stands l.hub) (g.J.JobSink.told l.jobs) (g.C.Clock.tells l.clock) (g.C.Clock.moment l.clock) l.now)
+    × (0 < l.turn → (g.L.Link.incoming l.link).room ≡ length l.into)

@@ -1,6 +1,6 @@
 use Rattle.std.proofs.Common.{ℕ, List, ◌++◌, sym, ap, ◌∙◌}
 use Rattle.ra_link_core.specs.Cores.{base_of}
-use Rattle.ra_link_core.proofs.PieceLemmas.{piece_waits, unheld_stands, opened_as, asks_going, asks_happens, drawn_later, asks_serves, core_of_step, opening_ends_so, seat_free, seat_past}
+use Rattle.ra_link_core.proofs.PieceLemmas.{piece_waits, unheld_stands, opened_as, asks_going, asks_happens, drawn_later, asks_serves, core_of_step, opening_ends_so, seat_free, seat_past, seat_done}
 use Rattle.ra_link_core.proofs.CutLemmas.{counts_so, not_cut, cut_or_not, held_unread}
 use Rattle.ra_opening.specs.Openings.{Grounds, grounds_of, opened}
 use Rattle.ra_link_core.proofs.link_core.open_piece.Goals as goal
@@ -53,7 +53,10 @@ returns-in-Waits-clause-unread g c = λ draw head text before s is unheld x.
     ∙ ap (λ (l : List ℕ). l ++ c.piece.new.self.reader.unread) (sym counts)
 
 pub returns-in-Ask-clause-once : goal.returns-in-Ask-clause-once
-returns-in-Ask-clause-once g c = λ shakes. rw c.after_step.ensures (seat_free c.ask.result.seat)
+returns-in-Ask-clause-once g c = λ shakes. rw c.after_step.ensures (seat_free c.ask.result.seat c.ask.result.end)
 
 pub returns-in-Ask-clause-unread : goal.returns-in-Ask-clause-unread
-returns-in-Ask-clause-unread g c = λ draw head text before s is unheld x. rw c.after_step.ensures (seat_past c.ask.result.seat _)
+returns-in-Ask-clause-unread g c = λ draw head text before s is unheld x. rw c.after_step.ensures (seat_past c.ask.result.seat c.ask.result.end _)
+
+pub returns-in-Ask-clause-done : goal.returns-in-Ask-clause-done
+returns-in-Ask-clause-done g c = λ some. rw c.after_step.ensures (seat_done c.ask.result.seat c.ask.result.end (rw c.after_step.ensures at some))

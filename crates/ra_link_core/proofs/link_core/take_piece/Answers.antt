@@ -1,7 +1,7 @@
 use Rattle.ra_opening.specs.Openings.{Grounds, grounds_of}
 use Rattle.ra_link_core.specs.Cores.{base_of}
 use Rattle.ra_link_core.proofs.GrowLemmas.{happens_refl}
-use Rattle.ra_link_core.proofs.PieceLemmas.{piece_seated, core_of_step}
+use Rattle.ra_link_core.proofs.PieceLemmas.{piece_seated, core_of_step, seat_done}
 use Rattle.ra_link_core.proofs.link_core.take_piece.Goals as goal
 
 pub returns-in-Seated-clause-made : goal.returns-in-Seated-clause-made
@@ -15,3 +15,6 @@ returns-in-Seated-clause-made g c = λ draw head text before s is unheld stands.
 
 pub returns-in-Opening-clause-framing : goal.returns-in-Opening-clause-framing
 returns-in-Opening-clause-framing g c = rw c.in-Opening.is c.open_piece.ensures.framing
+
+pub returns-in-Seated-clause-done : goal.returns-in-Seated-clause-done
+returns-in-Seated-clause-done g c = λ some. rw c.after_step.ensures (seat_done c.serve_turns.result.seat c.serve_turns.result.end (rw c.after_step.ensures at some))
