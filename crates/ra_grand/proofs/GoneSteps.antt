@@ -70,6 +70,7 @@ nothing_read l = let e : l.to_b.read + 0 ≡ l.to_b.read = omega arith in ap (λ
 seat_of : (core : Phase) (end : ServerEnd) → GoesAs core end → end.seat ≡ seat_in core
 seat_of (phases.Opening opening) end goes = goes.seat
 seat_of (phases.Seated seat) end goes = goes
+seat_of (phases.Ended seat) end goes = absurd goes
 seat_of phases.Over end goes = absurd goes
 
 -- ---- the link is left

@@ -2,12 +2,11 @@
 use Rattle.std.proofs.Common.{◌≡◌, ℕ, ◌+◌, ◌-◌, ◌<◌, Bool, true, false, Result, Ok, Err, OnOk, OnErr, List, [], ◌++◌, if◌then◌else◌, length, take, drop, refl, ap, sym, ◌∙◌, subst, append-nil, arith}
 use Rattle.std.proofs.lemmas.List.{take_all, drop_all, length-append}
 use Rattle.ra_base.specs.declared.event.Side.TheVariants.{B}
-use Rattle.ra_keep.specs.declared.mem_keeper.MemKeeper.{MemKeeper}
 use Rattle.ra_model.specs.Links.{Link, read_on}
 use Rattle.ra_hub.specs.Hubs.{Hub}
 use Rattle.ra_hub.specs.Keeping.{Stands}
 use Rattle.ra_hub.specs.declared.jobs.JobList.{JobList}
-use Rattle.ra_hub.specs.declared.plain.PlainHub.{PlainHub}
+use Rattle.ra_hub.specs.MemHubs.{MemHub}
 use Rattle.ra_link_core.specs.HubEvents.{HubEvent, events_done, events_jobs, events_bytes, seats_by}
 use Rattle.ra_link_core.specs.LinkRuns.{Serving}
 use Rattle.ra_link_core.specs.Makes.{Happens, Outcome, short}
@@ -96,7 +95,7 @@ cut_fits (short_mark draws calls bytes) s u out happens is fits =
     record { draws_made = fits.draws_made; calls_made = fits.calls_made; bytes_put = omega (arith, fits.bytes_put) }
 cut_fits (unticked keys) s u out happens is fits = whole_fits s u out happens is
 
-took_cut : (mark : Mark) (o : Outcome) (bytes : List ℕ) (core : Phase) (hub : PlainHub MemKeeper) (drawn : ℕ) (jobs : JobList) (out : List ℕ) (l : GrandLink) (w : Grand)
+took_cut : (mark : Mark) (o : Outcome) (bytes : List ℕ) (core : Phase) (hub : MemHub) (drawn : ℕ) (jobs : JobList) (out : List ℕ) (l : GrandLink) (w : Grand)
     → TookPiece mark o bytes core hub drawn jobs out l w → TookPiece (cut_mark mark (serving_at l w) (served bytes l w)) short bytes core hub drawn jobs [] l w
 took_cut mark o bytes core hub drawn jobs out l w took =
     let s = serving_at l w in

@@ -97,6 +97,7 @@ core_stands (phases.Seated seat) end next stands jobs s goes is hub told = recor
   seat_is = is.seat ∙ goes;
   end_is = is.going;
 }
+core_stands (phases.Ended seat) end next stands jobs s goes is hub told = absurd goes
 core_stands phases.Over end next stands jobs s goes is hub told = absurd goes
 
 -- ---- after it
@@ -138,6 +139,7 @@ core_goes (phases.Opening opening) draw head text before next stands jobs out u 
   draws = λ coming. draws_on draw coming u.drawn head text (sym x.drawn);
 }
 core_goes (phases.Seated seat) draw head text before next stands jobs out u x free = x.seat_is
+core_goes (phases.Ended seat) draw head text before next stands jobs out u x free = absurd x
 core_goes phases.Over draw head text before next stands jobs out u x free = absurd x
 
 -- ---- a head that asks for no framed stream

@@ -20,4 +20,5 @@ core_free (phases.Opening opening) g head text before next stands jobs out s x a
     apart : true ≡ false → ⊥
     apart e = cc
 core_free (phases.Seated seat) g head text before next stands jobs out s x asks = tt
+core_free (phases.Ended seat) g head text before next stands jobs out s x asks = absurd x
 core_free phases.Over g head text before next stands jobs out s x asks = absurd x

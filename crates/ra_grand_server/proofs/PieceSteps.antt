@@ -3,7 +3,6 @@ use Rattle.std.proofs.Common.{◌≡◌, ℕ, ◌+◌, ◌-◌, ◌≤◌, Bool,
 use Rattle.std.proofs.lemmas.List.{take_at, drop_at, length-append}
 use Rattle.std.proofs.Math.Path.{fun_ext}
 use Rattle.std.specs.Option.{is_some}
-use Rattle.ra_keep.specs.declared.mem_keeper.MemKeeper.{MemKeeper}
 use Rattle.ra_upgrade.specs.declared.request_head.HeadFault.{HeadFault}
 use Rattle.ra_upgrade.specs.declared.request_head.Upgrade.{Upgrade}
 use Rattle.ra_items.specs.Heads.{Head, IsRequestOf}
@@ -15,7 +14,7 @@ use Rattle.ra_hub.specs.Jobs.{SeenJob, seen}
 use Rattle.ra_hub.specs.JobLists.{jobs_in}
 use Rattle.ra_hub.specs.Keeping.{Stands}
 use Rattle.ra_hub.specs.declared.jobs.JobList.{JobList}
-use Rattle.ra_hub.specs.declared.plain.PlainHub.{PlainHub}
+use Rattle.ra_hub.specs.MemHubs.{MemHub}
 use Rattle.ra_link_core.specs.HubEvents.{HubEvent, events_done, events_jobs, events_bytes, seats_by}
 use Rattle.ra_link_core.specs.LinkRuns.{Serving, End, asks_framing, with_piece, piece_done}
 use Rattle.ra_link_core.specs.Makes.{Happens, Grows, Tells, Outcome, goes, over, unkept, short, outcome_of}
@@ -112,7 +111,7 @@ draws_so l w drawn v later are =
     let place : w.drawn + ((v.drawn - length own) + n) + 1 ≡ w.drawn + (v.drawn - length own) + n + 1 = omega arith in
     are n ∙ ap (λ (m : ℕ). draw_at l w m) at ∙ own_behind own (draws_after w.drawn) ((v.drawn - length own) + n) ∙ ap nth_draw place)
 
-serves_so : (hub : PlainHub MemKeeper) (drawn : ℕ) (jobs : JobList) (out : List ℕ) (l : GrandLink) (w : Grand) (v : Serving)
+serves_so : (hub : MemHub) (drawn : ℕ) (jobs : JobList) (out : List ℕ) (l : GrandLink) (w : Grand) (v : Serving)
     → Tells (Stands hub) (Some (map seen (jobs_in jobs))) (base_of (grounds (draw_at l w)) l.server.out (draws_after drawn)) out v → Happens (serving_at l w) v
     → Serves hub drawn jobs out l w v
 serves_so hub drawn jobs out l w v tells happens = record {
@@ -122,7 +121,7 @@ serves_so hub drawn jobs out l w v tells happens = record {
   written = tells.out_is;
 }
 
-serves_alike : (hub : PlainHub MemKeeper) (drawn : ℕ) (jobs : JobList) (out : List ℕ) (l : GrandLink) (w : Grand) (p v : Serving)
+serves_alike : (hub : MemHub) (drawn : ℕ) (jobs : JobList) (out : List ℕ) (l : GrandLink) (w : Grand) (p v : Serving)
     → Alike p v → Serves hub drawn jobs out l w p → Serves hub drawn jobs out l w v
 serves_alike hub drawn jobs out l w p v alike serves = record {
   hub_stands = subst (λ (h : Hub). Stands hub h) (sym alike.hub) serves.hub_stands;
@@ -133,45 +132,48 @@ serves_alike hub drawn jobs out l w p v alike serves = record {
 
 -- ---- a piece
 
-abbrev Makes : Outcome → Phase → PlainHub MemKeeper → ℕ → JobList → List ℕ → List ℕ → GrandLink → Grand → Type 0
+abbrev Makes : Outcome → Phase → MemHub → ℕ → JobList → List ℕ → List ℕ → GrandLink → Grand → Type 0
 Makes o core hub drawn jobs bytes out l w =
     CoreMakes o core (grounds (draw_at l w)) l.server.head (l.server.seen ++ bytes) l.server.out (draws_after drawn) (Stands hub) (Some (map seen (jobs_in jobs))) out (serving_at l w) (served bytes l w)
 
-abbrev Took : Outcome → Phase → PlainHub MemKeeper → ℕ → JobList → List ℕ → List ℕ → GrandLink → Grand → Type 0
+abbrev Took : Outcome → Phase → MemHub → ℕ → JobList → List ℕ → List ℕ → GrandLink → Grand → Type 0
 Took o core hub drawn jobs bytes out l w = (mark : Mark) × TookPiece mark o bytes core hub drawn jobs out l w
 
-core_seat : (core : Phase) (hub : PlainHub MemKeeper) (drawn : ℕ) (jobs : JobList) (bytes out : List ℕ) (l : GrandLink) (w : Grand)
+core_seat : (core : Phase) (hub : MemHub) (drawn : ℕ) (jobs : JobList) (bytes out : List ℕ) (l : GrandLink) (w : Grand)
     → Makes goes core hub drawn jobs bytes out l w → (served bytes l w).seat ≡ seat_in core
 core_seat (phases.Opening opening) hub drawn jobs bytes out l w x = x.going.seat_is
 core_seat (phases.Seated seat) hub drawn jobs bytes out l w x = x.seat_is
+core_seat (phases.Ended seat) hub drawn jobs bytes out l w x = absurd x
 core_seat phases.Over hub drawn jobs bytes out l w x = absurd x
 
-core_end : (core : Phase) (hub : PlainHub MemKeeper) (drawn : ℕ) (jobs : JobList) (bytes out : List ℕ) (l : GrandLink) (w : Grand)
+core_end : (core : Phase) (hub : MemHub) (drawn : ℕ) (jobs : JobList) (bytes out : List ℕ) (l : GrandLink) (w : Grand)
     → Makes goes core hub drawn jobs bytes out l w → (served bytes l w).end ≡ None
 core_end (phases.Opening opening) hub drawn jobs bytes out l w x = x.going.end_is
 core_end (phases.Seated seat) hub drawn jobs bytes out l w x = x.end_is
+core_end (phases.Ended seat) hub drawn jobs bytes out l w x = absurd x
 core_end phases.Over hub drawn jobs bytes out l w x = absurd x
 
-core_tells : (core : Phase) (hub : PlainHub MemKeeper) (drawn : ℕ) (jobs : JobList) (bytes out : List ℕ) (l : GrandLink) (w : Grand)
+core_tells : (core : Phase) (hub : MemHub) (drawn : ℕ) (jobs : JobList) (bytes out : List ℕ) (l : GrandLink) (w : Grand)
     → Makes goes core hub drawn jobs bytes out l w
     → Tells (Stands hub) (Some (map seen (jobs_in jobs))) (base_of (grounds (draw_at l w)) l.server.out (draws_after drawn)) out (served bytes l w)
 core_tells (phases.Opening opening) hub drawn jobs bytes out l w x = x.going.tells
 core_tells (phases.Seated seat) hub drawn jobs bytes out l w x = x.tells
+core_tells (phases.Ended seat) hub drawn jobs bytes out l w x = absurd x
 core_tells phases.Over hub drawn jobs bytes out l w x = absurd x
 
 -- a link whose end is over needs no more
-abbrev OfPart : PlainHub MemKeeper → ℕ → JobList → List ℕ → List ℕ → GrandLink → Grand → Serving → Type 0
+abbrev OfPart : MemHub → ℕ → JobList → List ℕ → List ℕ → GrandLink → Grand → Serving → Type 0
 OfPart hub drawn jobs bytes out l w p =
     Alike p (came (p.drawn - (serving_at l w).drawn) (take (length p.events) (served bytes l w).events) (length out) (serving_at l w) (served bytes l w))
     × Serves hub drawn jobs out l w p
 
-of_part : (hub : PlainHub MemKeeper) (drawn : ℕ) (jobs : JobList) (bytes out : List ℕ) (l : GrandLink) (w : Grand) (p : Serving)
+of_part : (hub : MemHub) (drawn : ℕ) (jobs : JobList) (bytes out : List ℕ) (l : GrandLink) (w : Grand) (p : Serving)
     → Tells (Stands hub) (Some (map seen (jobs_in jobs))) (base_of (grounds (draw_at l w)) l.server.out (draws_after drawn)) out p
     → Happens (serving_at l w) p → Grows p (served bytes l w) → OfPart hub drawn jobs bytes out l w p
 of_part hub drawn jobs bytes out l w p tells came_so comes =
     (part_alike (serving_at l w) p (served bytes l w) out refl tells.out_is came_so comes, serves_so hub drawn jobs out l w p tells came_so)
 
-took_by : (o : Outcome) (core : Phase) (hub : PlainHub MemKeeper) (drawn : ℕ) (jobs : JobList) (bytes out : List ℕ) (l : GrandLink) (w : Grand)
+took_by : (o : Outcome) (core : Phase) (hub : MemHub) (drawn : ℕ) (jobs : JobList) (bytes out : List ℕ) (l : GrandLink) (w : Grand)
     → Makes o core hub drawn jobs bytes out l w → Happens (serving_at l w) (served bytes l w) → asks_framing l.server.head.says ≡ false
     → Took o core hub drawn jobs bytes out l w
 took_by goes core hub drawn jobs bytes out l w x all asks = (
@@ -228,7 +230,7 @@ took_by short core hub drawn jobs bytes out l w x all asks =
 
 -- ---- the call
 
-made_so : (o : Outcome) (core : Phase) (hub : PlainHub MemKeeper) (drawn : ℕ) (jobs : JobList) (bytes out text : List ℕ) (l : GrandLink) (w : Grand) (u : Serving)
+made_so : (o : Outcome) (core : Phase) (hub : MemHub) (drawn : ℕ) (jobs : JobList) (bytes out text : List ℕ) (l : GrandLink) (w : Grand) (u : Serving)
     → text ≡ l.server.seen ++ bytes → u ≡ served bytes l w
     → CoreMakes o core (grounds (draw_at l w)) l.server.head text l.server.out (draws_after drawn) (Stands hub) (Some (map seen (jobs_in jobs))) out (serving_at l w) u
     → Makes o core hub drawn jobs bytes out l w
@@ -237,18 +239,18 @@ made_so o core hub drawn jobs bytes out text l w u is served_is x =
     (subst (λ (t : List ℕ). CoreMakes o core (grounds (draw_at l w)) l.server.head t l.server.out (draws_after drawn) (Stands hub) (Some (map seen (jobs_in jobs))) out (serving_at l w) u) is x)
 
 -- how the link stands before
-abbrev pub Stood : Phase → PlainHub MemKeeper → ℕ → JobList → GrandLink → Grand → Type 0
+abbrev pub Stood : Phase → MemHub → ℕ → JobList → GrandLink → Grand → Type 0
 Stood core hub drawn jobs l w =
     CoreStands core (grounds (draw_at l w)) l.server.head l.server.seen l.server.out (draws_after drawn) (Stands hub) (Some (map seen (jobs_in jobs))) [] (serving_at l w)
 
-pub stood : (core : Phase) (hub : PlainHub MemKeeper) (drawn : ℕ) (jobs : JobList) (l : GrandLink) (w : Grand)
+pub stood : (core : Phase) (hub : MemHub) (drawn : ℕ) (jobs : JobList) (l : GrandLink) (w : Grand)
     → GoesAs core l.server → Shares hub drawn jobs w → Stood core hub drawn jobs l w
 stood core hub drawn jobs l w goes_as shares =
     subst (λ (next : ℕ → List ℕ). CoreStands core (grounds (draw_at l w)) l.server.head l.server.seen l.server.out next (Stands hub) (Some (map seen (jobs_in jobs))) [] (serving_at l w)) (sym shares.draws)
     (core_stands core l.server (draws_after w.drawn) (Stands hub) (Some (map seen (jobs_in jobs))) (serving_at l w) goes_as
     (record { seat = refl; out = refl; drawn = refl; going = refl }) shares.hub_stands (ap (λ (js : List SeenJob). Some js) shares.jobs_are))
 
-pub took : (o : Outcome) (old core : Phase) (hub hub' : PlainHub MemKeeper) (drawn drawn' : ℕ) (jobs jobs' : JobList) (bytes out : List ℕ) (l : GrandLink) (w : Grand)
+pub took : (o : Outcome) (old core : Phase) (hub hub' : MemHub) (drawn drawn' : ℕ) (jobs jobs' : JobList) (bytes out : List ℕ) (l : GrandLink) (w : Grand)
     → Stood old hub drawn jobs l w → asks_framing l.server.head.says ≡ false
     → CoreMakes o core (grounds (draw_at l w)) l.server.head (with_piece l.server.head l.server.seen bytes) l.server.out (draws_after drawn') (Stands hub') (Some (map seen (jobs_in jobs'))) out (serving_at l w)
     (piece_done (grounds (draw_at l w)) l.server.head l.server.seen (record { bytes = bytes; now = w.now }) (serving_at l w))
@@ -273,7 +275,7 @@ ends_so (Some ends.KeepFault) = refl
 ends_so (Some ends.NoMemory) = refl
 
 -- what the call promises of any link
-abbrev pub Made : Outcome → Phase → Phase → PlainHub MemKeeper → PlainHub MemKeeper → ℕ → ℕ → JobList → JobList → List ℕ → List ℕ → ℕ → ShakeSettings → List ℕ → List ℕ → Type 0
+abbrev pub Made : Outcome → Phase → Phase → MemHub → MemHub → ℕ → ℕ → JobList → JobList → List ℕ → List ℕ → ℕ → ShakeSettings → List ℕ → List ℕ → Type 0
 Made o old core hub hub' drawn drawn' jobs jobs' bytes out now settings key before_out =
     (draw : ℕ → List ℕ) (head : Head Upgrade HeadFault) (text before : List ℕ) (s : Serving) → IsRequestOf (text ++ bytes) head → NotHeld old
     → CoreStands old (grounds_of settings (signature_text key) (is_signature key) draw) head text before (draws_after drawn) (Stands hub) (Some (map seen (jobs_in jobs))) before_out s
@@ -287,7 +289,7 @@ going_as true core end not goes_as = absurd (apart not)
     apart e = cc
 going_as false core end not goes_as = goes_as
 
-takes_by : (o : Outcome) (link : ServedState) (core : Phase) (hub hub' : PlainHub MemKeeper) (drawn drawn' : ℕ) (jobs jobs' : JobList) (bytes out : List ℕ) (now : ℕ)
+takes_by : (o : Outcome) (link : ServedState) (core : Phase) (hub hub' : MemHub) (drawn drawn' : ℕ) (jobs jobs' : JobList) (bytes out : List ℕ) (now : ℕ)
     → Made o link.core core hub hub' drawn drawn' jobs jobs' bytes out now shake_settings secret [] → Takes link o bytes now core hub drawn jobs hub' drawn' jobs' out
 takes_by o link core hub hub' drawn drawn' jobs jobs' bytes out now made = λ w l at shares is continues.
     let goes_as = going_as link.is_over link.core l.server (sym is.over ∙ continues.going) is.goes in
@@ -298,7 +300,7 @@ takes_by o link core hub hub' drawn drawn' jobs jobs' bytes out now made = λ w 
     (subst (λ (n : ℕ). CoreMakes o core (grounds (draw_at l w)) l.server.head (with_piece l.server.head l.server.seen bytes) l.server.out (draws_after drawn') (Stands hub') (Some (map seen (jobs_in jobs'))) out (serving_at l w)
     (piece_done (grounds (draw_at l w)) l.server.head l.server.seen (record { bytes = bytes; now = n }) (serving_at l w))) (sym at) comes)
 
-pub takes_so : (o : Outcome) (link : ServedState) (core : Phase) (hub hub' : PlainHub MemKeeper) (drawn drawn' : ℕ) (jobs jobs' : JobList) (bytes out : List ℕ) (now : ℕ) (settings : ShakeSettings) (key before_out : List ℕ)
+pub takes_so : (o : Outcome) (link : ServedState) (core : Phase) (hub hub' : MemHub) (drawn drawn' : ℕ) (jobs jobs' : JobList) (bytes out : List ℕ) (now : ℕ) (settings : ShakeSettings) (key before_out : List ℕ)
     → settings ≡ shake_settings → key ≡ secret → before_out ≡ []
     → Made o link.core core hub hub' drawn drawn' jobs jobs' bytes out now settings key before_out → Takes link o bytes now core hub drawn jobs hub' drawn' jobs' out
 takes_so o link core hub hub' drawn drawn' jobs jobs' bytes out now settings key before_out set keyed empty made =

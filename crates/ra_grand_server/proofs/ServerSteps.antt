@@ -1,11 +1,10 @@
 -- A link of the server at its place: a piece comes to it, or it is left.
 use Rattle.std.proofs.Common.{◌≡◌, ℕ, zero, suc, Option, Some, List, [], ◌∷◌, refl, ap, ◌∙◌, subst}
 use Rattle.std.specs.Prelude.{slice_get, slice_set, slice_index_or}
-use Rattle.ra_keep.specs.declared.mem_keeper.MemKeeper.{MemKeeper}
 use Rattle.ra_hub.specs.Hubs.{Hub}
 use Rattle.ra_hub.specs.Keeping.{Stands}
 use Rattle.ra_hub.specs.declared.jobs.JobList.{JobList}
-use Rattle.ra_hub.specs.declared.plain.PlainHub.{PlainHub}
+use Rattle.ra_hub.specs.MemHubs.{MemHub}
 use Rattle.ra_link_core.specs.Cores.{seat_in}
 use Rattle.ra_link_core.specs.LinkRuns.{hub_left}
 use Rattle.ra_link_core.specs.Makes.{Outcome}
@@ -23,10 +22,10 @@ index_is (x ∷ ls) (suc n) d l is = index_is ls n d l is
 pub over_at : (ls : List ServedState) (n : ℕ) (d : ServedState) → d ≡ slice_index_or ls n d → (link : ServedState) → slice_get ls n ≡ Some link → d.is_over ≡ link.is_over
 over_at ls n d is link there = ap (λ (x : ServedState). x.is_over) (is ∙ index_is ls n d link there)
 
-abbrev pub server_of : PlainHub MemKeeper → ℕ → JobList → List ServedState → ServerState
+abbrev pub server_of : MemHub → ℕ → JobList → List ServedState → ServerState
 server_of hub drawn jobs links = record { hub = hub; drawn = drawn; jobs = jobs; links = links }
 
-pub leaves_at : (hub hub' : PlainHub MemKeeper) (drawn : ℕ) (jobs : JobList) (ls : List ServedState) (n now : ℕ) (d l : ServedState) → l ≡ left_state (slice_index_or ls n d)
+pub leaves_at : (hub hub' : MemHub) (drawn : ℕ) (jobs : JobList) (ls : List ServedState) (n now : ℕ) (d l : ServedState) → l ≡ left_state (slice_index_or ls n d)
     → ((h : Hub) → Stands hub h → Stands hub' (hub_left (seat_in (slice_index_or ls n d).core) now h))
     → LeavesAt n now (server_of hub drawn jobs ls) (server_of hub' drawn jobs (slice_set ls n l))
 leaves_at hub hub' drawn jobs ls n now d l left made = λ link is.
@@ -38,7 +37,7 @@ leaves_at hub hub' drawn jobs ls n now d l left made = λ link is.
       hub = subst (λ (x : ServedState). (h : Hub) → Stands hub h → Stands hub' (hub_left (seat_in x.core) now h)) at made;
     }
 
-pub piece_at : (hub hub' : PlainHub MemKeeper) (drawn drawn' : ℕ) (jobs jobs' : JobList) (ls : List ServedState) (n now : ℕ) (d l : ServedState) (outcome : Outcome) (bytes out : List ℕ)
+pub piece_at : (hub hub' : MemHub) (drawn drawn' : ℕ) (jobs jobs' : JobList) (ls : List ServedState) (n now : ℕ) (d l : ServedState) (outcome : Outcome) (bytes out : List ℕ)
     → l ≡ record (slice_index_or ls n d) { core = l.core }
     → Takes (slice_index_or ls n d) outcome bytes now l.core hub drawn jobs hub' drawn' jobs' out
     → PieceAt n outcome bytes now out (server_of hub drawn jobs ls) (server_of hub' drawn' jobs' (slice_set ls n l))

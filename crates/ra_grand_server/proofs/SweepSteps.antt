@@ -1,9 +1,8 @@
 -- A sweep of the server's side.
 use Rattle.std.proofs.Common.{◌≡◌, ℕ, List, [], ◌∷◌, length, refl, ap, sym, ◌∙◌, subst}
 use Rattle.ra_base.specs.declared.key.Key.{Key}
-use Rattle.ra_keep.specs.declared.mem_keeper.MemKeeper.{MemKeeper}
 use Rattle.ra_hub.specs.declared.hub.Swept.{Swept}
-use Rattle.ra_hub.specs.declared.plain.PlainHub.{PlainHub}
+use Rattle.ra_hub.specs.MemHubs.{MemHub}
 use Rattle.ra_hub.specs.Hubs.{Hub}
 use Rattle.ra_hub.specs.Keeping.{Stands}
 use Rattle.ra_hub.specs.Sweeps.{IsSwept}
@@ -17,14 +16,14 @@ left_by_mark : (keys : List Key) → left_by (sweep_mark keys) ≡ keys
 left_by_mark [] = refl
 left_by_mark (key ∷ keys) = refl
 
-pub with_hub : (s : ServerState) (w : Grand) (hub : PlainHub MemKeeper) (h : Hub) → StandsForServer s w → Stands hub h
+pub with_hub : (s : ServerState) (w : Grand) (hub : MemHub) (h : Hub) → StandsForServer s w → Stands hub h
     → StandsForServer (record s { hub = hub }) (record w { hub = h })
 with_hub s w hub h stands is = record { hub = is; draws = stands.draws; jobs = stands.jobs; places = stands.places; apart = stands.apart; ends = stands.ends }
 
-abbrev Ticked : PlainHub MemKeeper → Hub → ℕ → Swept → Type 0
+abbrev Ticked : MemHub → Hub → ℕ → Swept → Type 0
 Ticked new h now swept = (after : Hub) × Stands new after × IsSwept h now swept.expired swept.short after
 
-pub sweeps_so : (s : ServerState) (new : PlainHub MemKeeper) (now : ℕ) (swept : Swept) → ((h : Hub) → Stands s.hub h → Ticked new h now swept)
+pub sweeps_so : (s : ServerState) (new : MemHub) (now : ℕ) (swept : Swept) → ((h : Hub) → Stands s.hub h → Ticked new h now swept)
     → (w : Grand) → StandsForServer s w → w.now ≡ now → Sweeps swept (record s { hub = new }) w
 unfolding sweeps
 sweeps_so s new now swept ticked w stands is =

@@ -4,7 +4,6 @@ use Rattle.std.specs.Prelude.{slice_get}
 use Rattle.std.proofs.lemmas.List.{take-map, drop-map, map-append}
 use Rattle.ra_base.specs.declared.key.Cause.TheVariants.{Stopped}
 use Rattle.ra_base.specs.declared.key.Key.{Key}
-use Rattle.ra_keep.specs.declared.mem_keeper.MemKeeper.{MemKeeper}
 use Rattle.ra_model.specs.Links.{at_number}
 use Rattle.ra_registry.specs.declared.row.Row.{Row}
 use Rattle.ra_session.specs.View.{work_of}
@@ -22,7 +21,7 @@ use Rattle.ra_hub.specs.declared.fault.HubFault.{HubFault}
 use Rattle.ra_hub.specs.declared.fault.HubFault.TheVariants as faults
 use Rattle.ra_hub.specs.declared.jobs.Job.{Job}
 use Rattle.ra_hub.specs.declared.jobs.JobList.{JobList}
-use Rattle.ra_hub.specs.declared.plain.PlainHub.{PlainHub}
+use Rattle.ra_hub.specs.MemHubs.{MemHub}
 use Rattle.ra_grand_runs.specs.Grands.{Grand}
 use Rattle.ra_grand_server.specs.ServerCalls.{Works}
 use Rattle.ra_grand_server.specs.ServerStates.{ServerState, StandsForServer}
@@ -168,12 +167,12 @@ without jobs at =
     ∙ ap (λ (xs : List SeenJob). xs ++ map seen (drop (at + 1) jobs)) (sym (take-map seen at jobs))
     ∙ ap (λ (xs : List SeenJob). take at (map seen jobs) ++ xs) (sym (drop-map seen (at + 1) jobs))
 
-with_jobs : (s : ServerState) (w : Grand) (hub : PlainHub MemKeeper) (h : Hub) (jobs : JobList) (js : List SeenJob) → StandsForServer s w → Stands hub h → map seen (jobs_in jobs) ≡ js
+with_jobs : (s : ServerState) (w : Grand) (hub : MemHub) (h : Hub) (jobs : JobList) (js : List SeenJob) → StandsForServer s w → Stands hub h → map seen (jobs_in jobs) ≡ js
     → StandsForServer (record s { hub = hub; jobs = jobs }) (record w { hub = h; jobs = js })
 with_jobs s w hub h jobs js stands is same = record { hub = is; draws = stands.draws; jobs = same; places = stands.places; apart = stands.apart; ends = stands.ends }
 
 -- what came of the telling, at the moment of the world
-abbrev pub ToldNow : PlainHub MemKeeper → ServerState → Job → ℕ → Result Unit0 HubFault → Type 0
+abbrev pub ToldNow : MemHub → ServerState → Job → ℕ → Result Unit0 HubFault → Type 0
 ToldNow hub s job now result =
     (h : Hub) (t : Telling) → Stands s.hub h → telling (work_of job.work) ≡ Some t → ToldAt h job.key t now result (λ after. Stands hub after)
 
@@ -194,7 +193,7 @@ one_job jobs at job other is that = same (sym is ∙ that)
     same : {x y : Job} → ◌≡◌ {A = Option Job} (Some x) (Some y) → x ≡ y
     same e = cc
 
-pub work_done : (s : ServerState) (hub : PlainHub MemKeeper) (jobs : JobList) (at : ℕ) (now : ℕ) (result : Result Unit0 HubFault)
+pub work_done : (s : ServerState) (hub : MemHub) (jobs : JobList) (at : ℕ) (now : ℕ) (result : Result Unit0 HubFault)
     → settled result ≡ Ok (tt) → jobs_in jobs ≡ take at (jobs_in s.jobs) ++ drop (at + 1) (jobs_in s.jobs)
     → (there : Job) → slice_get (jobs_in s.jobs) at ≡ Some there → ToldNow hub s there now result
     → (w : Grand) (job : Job) → StandsForServer s w → w.now ≡ now → slice_get (jobs_in s.jobs) at ≡ Some job
@@ -223,7 +222,7 @@ work_done s hub jobs at now result ends left first here tells_first w job stands
           (with_jobs s w hub made.hub jobs v.jobs stands made.after left_are),
     )
 
-pub work_stays : (s : ServerState) (hub : PlainHub MemKeeper) (at : ℕ) (now : ℕ) (result : Result Unit0 HubFault) (fault : SessionFault) → settled result ≡ Err fault
+pub work_stays : (s : ServerState) (hub : MemHub) (at : ℕ) (now : ℕ) (result : Result Unit0 HubFault) (fault : SessionFault) → settled result ≡ Err fault
     → (there : Job) → slice_get (jobs_in s.jobs) at ≡ Some there → ToldNow hub s there now result
     → (w : Grand) (job : Job) → StandsForServer s w → w.now ≡ now → slice_get (jobs_in s.jobs) at ≡ Some job
     → Works (Err fault) (at + 1) (seen job) (record s { hub = hub }) w

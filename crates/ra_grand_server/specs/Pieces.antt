@@ -1,8 +1,7 @@
 -- What a piece makes of a link in memory, and of what all links of the server share.
 use Rattle.std.specs.Prelude.{◌≡◌, ℕ, ◌+◌, ◌-◌, Bool, true, false, Some, List, ◌++◌, length, map, slice_get, slice_set}
-use Rattle.ra_keep.specs.declared.mem_keeper.MemKeeper.{MemKeeper}
 use Rattle.ra_hub.specs.declared.jobs.JobList.{JobList}
-use Rattle.ra_hub.specs.declared.plain.PlainHub.{PlainHub}
+use Rattle.ra_hub.specs.MemHubs.{MemHub}
 use Rattle.ra_hub.specs.Hubs.{Hub}
 use Rattle.ra_hub.specs.JobLists.{jobs_in}
 use Rattle.ra_hub.specs.Jobs.{seen}
@@ -26,13 +25,13 @@ use Rattle.ra_grand_server.specs.ServerStates.{ServerState, ServedState, IsEndOf
 -- ---- a piece
 
 -- the hub, the draws and the jobs of a world
-pub record Shares (hub : PlainHub MemKeeper) (drawn : ℕ) (jobs : JobList) (w : Grand) : Type 0 where
+pub record Shares (hub : MemHub) (drawn : ℕ) (jobs : JobList) (w : Grand) : Type 0 where
   pub hub_stands : Stands hub w.hub
   pub draws : draws_after drawn ≡ draws_after w.drawn
   pub jobs_are : map seen (jobs_in jobs) ≡ w.jobs
 
 -- the hub, the draws and the jobs are those of this served link, and this was written for it
-pub record Serves (hub : PlainHub MemKeeper) (drawn : ℕ) (jobs : JobList) (out : List ℕ) (l : GrandLink) (w : Grand) (v : Serving) : Type 0 where
+pub record Serves (hub : MemHub) (drawn : ℕ) (jobs : JobList) (out : List ℕ) (l : GrandLink) (w : Grand) (v : Serving) : Type 0 where
   pub hub_stands : Stands hub v.hub
   pub draws : draws_after drawn ≡ draws_after (w.drawn + (v.drawn - length l.server.drawn))
   pub jobs_are : map seen (jobs_in jobs) ≡ v.jobs
@@ -45,7 +44,7 @@ is_end unkept = true
 is_end short = true
 
 -- the piece was taken so far, and the link is over where it says so
-pub record TookPiece (mark : Mark) (outcome : Outcome) (bytes : List ℕ) (core : Phase) (hub : PlainHub MemKeeper) (drawn : ℕ) (jobs : JobList) (out : List ℕ) (l : GrandLink) (w : Grand) : Type 0 where
+pub record TookPiece (mark : Mark) (outcome : Outcome) (bytes : List ℕ) (core : Phase) (hub : MemHub) (drawn : ℕ) (jobs : JobList) (out : List ℕ) (l : GrandLink) (w : Grand) : Type 0 where
   pub serves : Serves hub drawn jobs out l w (came_at mark bytes l w).link
   pub seat : (came_at mark bytes l w).link.seat ≡ seat_in core
   pub over : (came_at mark bytes l w).is_over ≡ is_end outcome
@@ -55,7 +54,7 @@ pub record TookPiece (mark : Mark) (outcome : Outcome) (bytes : List ℕ) (core 
   pub fits : MarkFits mark (serving_at l w) (served bytes l w)
 
 -- what a piece makes of a link in memory
-abbrev pub Takes : ServedState → Outcome → List ℕ → ℕ → Phase → PlainHub MemKeeper → ℕ → JobList → PlainHub MemKeeper → ℕ → JobList → List ℕ → Type 0
+abbrev pub Takes : ServedState → Outcome → List ℕ → ℕ → Phase → MemHub → ℕ → JobList → MemHub → ℕ → JobList → List ℕ → Type 0
 Takes link outcome bytes now core hub drawn jobs hub_after drawn_after jobs_after out =
     (w : Grand) (l : GrandLink) → w.now ≡ now → Shares hub drawn jobs w → IsEndOf link l.server → Continues bytes l
     → (mark : Mark) × TookPiece mark outcome bytes core hub_after drawn_after jobs_after out l w

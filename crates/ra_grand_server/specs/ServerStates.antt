@@ -1,10 +1,9 @@
 -- What the server's side of a world keeps in memory, and what it stands for.
 use Rattle.std.specs.Prelude.{◌≡◌, ◌≢◌, ℕ, ◌+◌, ◌≤◌, Bool, true, false, Option, Some, None, List, [], ◌∷◌, map, length, ⊤}
 use Rattle.ra_base.specs.declared.key.Seat.{Seat}
-use Rattle.ra_keep.specs.declared.mem_keeper.MemKeeper.{MemKeeper}
 use Rattle.ra_model.specs.Links.{at_number}
 use Rattle.ra_hub.specs.declared.jobs.JobList.{JobList}
-use Rattle.ra_hub.specs.declared.plain.PlainHub.{PlainHub}
+use Rattle.ra_hub.specs.MemHubs.{MemHub}
 use Rattle.ra_hub.specs.JobLists.{jobs_in}
 use Rattle.ra_hub.specs.Jobs.{seen}
 use Rattle.ra_hub.specs.Keeping.{Stands, seats_of}
@@ -28,7 +27,7 @@ pub record ServedState : Type 0 where
   pub is_over : Bool
 
 pub record ServerState : Type 0 where
-  pub hub : PlainHub MemKeeper
+  pub hub : MemHub
   pub drawn : ℕ
   pub jobs : JobList
   pub links : List ServedState
@@ -44,7 +43,7 @@ seats_held [] seat = 0
 seats_held (l ∷ ls) seat = owned (seat_in l.core) seat + seats_held ls seat
 
 -- each of them is one that the hub gave
-abbrev pub HoldsSeats : PlainHub MemKeeper → List ServedState → Type 0
+abbrev pub HoldsSeats : MemHub → List ServedState → Type 0
 HoldsSeats hub links = (seat : Seat) → seats_held links seat ≤ seats_of hub seat
 
 -- ---- the server's ends of links
@@ -68,6 +67,7 @@ pub record OpensAs (opening : OpeningState) (end : ServerEnd) : Type 0 where
 abbrev pub GoesAs : Phase → ServerEnd → Type 0
 GoesAs (phases.Opening opening) end = OpensAs opening end
 GoesAs (phases.Seated seat) end = end.seat ≡ Some seat
+GoesAs (phases.Ended seat) end = ⊥
 GoesAs phases.Over end = ⊥
 
 abbrev pub Unless : Bool → Type 0 → Type 0

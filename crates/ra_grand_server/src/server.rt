@@ -46,11 +46,12 @@ impl Model for Server {
     ghost use Rattle.ra_values.specs.contracts.value.Value as value;
     ghost use Rattle.ra_keep.specs.contracts.mem_keeper.MemKeeper as kept;
     ghost use Rattle.ra_hub.specs.contracts.plain.PlainHub as plain;
+    ghost use Rattle.ra_hub.specs.MemHubs.{mem_keeping};
     ghost use Rattle.ra_grand_server.specs.ServerStates.{ServerState, HoldsSeats};
 
     ghost Value = { ServerState };
 
-    ghost coded = { Prim.hlevel (codes, coded_tree, value.the_row.coded, (plain.the_row kept.the_row).coded) };
+    ghost coded = { Prim.hlevel (codes, coded_tree, value.the_row.coded, (plain.the_row kept.the_row mem_keeping).coded) };
 
     ghost view = { λ s. record { hub = s.hub; drawn = s.entropy; jobs = s.jobs; links = s.links.items } };
 
