@@ -3,11 +3,14 @@
 #![tactic(auto)]
 
 mod channels;
+mod gone;
 mod links;
 mod registry;
 mod sessions;
+mod strangers;
 mod values;
 
+use gone::Fate;
 use ra_ports::{StdSink, write_all};
 use std::alloc::Global;
 use std::env;
@@ -64,6 +67,31 @@ fn link_line(alloc: Global, messages: u32, size: u32) -> Option<String> {
     format!(in alloc; "messages={messages} size={size} jobs={jobs}\n").ok()
 }
 
+/// The strangers, the objects of the body that each of them sends, and how many of its bytes do not come. The body is that of a text of the
+/// handshake.
+fn strangers_line(alloc: Global, links: u32, units: u32, missing: u32) -> Option<String> {
+    let waits = strangers::run(alloc, links, 2, units, missing as usize).ok()?;
+    format!(in alloc; "links={links} units={units} missing={missing} waits={waits}\n").ok()
+}
+
+/// The same, where the frame is passed over.
+fn passed_line(alloc: Global, links: u32, units: u32, missing: u32) -> Option<String> {
+    let waits = strangers::run(alloc, links, 1, units, missing as usize).ok()?;
+    format!(in alloc; "passed links={links} units={units} missing={missing} waits={waits}\n").ok()
+}
+
+/// The sessions that are lost, or end, and the bytes of the message that each of them hears before.
+fn gone_line(alloc: Global, fate: Fate, sessions: u32, size: u32) -> Option<String> {
+    let gone = gone::run(alloc, fate, sessions, size as usize).ok()?;
+    format!(in alloc; "{fate:?} sessions={gone} size={size}\n").ok()
+}
+
+/// The sessions that have ended, and the ticks.
+fn ticks_line(alloc: Global, ended: u32, count: u32) -> Option<String> {
+    let ticks = gone::ticks(alloc, ended, count).ok()?;
+    format!(in alloc; "ended={ended} ticks={ticks}\n").ok()
+}
+
 /// What the load of the first word comes to, in a line; none where memory is wanting, or where the word names no load.
 fn line_of(alloc: Global, words: &[String]) -> Option<String> {
     let name = words.first()?.as_str();
@@ -74,6 +102,11 @@ fn line_of(alloc: Global, words: &[String]) -> Option<String> {
         "channels" => channels_line(alloc, first, second),
         "sessions" => sessions_line(alloc, first, second),
         "link" => link_line(alloc, first, second),
+        "strangers" => strangers_line(alloc, first, second, third),
+        "passed" => passed_line(alloc, first, second, third),
+        "lost" => gone_line(alloc, Fate::Lost, first, second),
+        "ended" => gone_line(alloc, Fate::Ends, first, second),
+        "ticks" => ticks_line(alloc, first, second),
         _ => None,
     }
 }
@@ -86,6 +119,11 @@ fn small_lines(alloc: Global) -> Option<String> {
         channels_line(alloc, 100, 3)?,
         sessions_line(alloc, 20, 3)?,
         link_line(alloc, 50, 100)?,
+        strangers_line(alloc, 3, 20, 1)?,
+        passed_line(alloc, 3, 20, 1)?,
+        gone_line(alloc, Fate::Lost, 3, 1000)?,
+        gone_line(alloc, Fate::Ends, 3, 1000)?,
+        ticks_line(alloc, 3, 2)?,
     ] {
         lines.push_str(line.as_str()).ok()?;
     }

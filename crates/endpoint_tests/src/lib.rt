@@ -1,10 +1,12 @@
-//! Tests of what the crates of one endpoint, of two and of their scripts do, where no contract says it.
+//! Tests of what the crates of the outside, of one endpoint, of two and of their scripts do, where no contract says it.
 #![tactic(auto)]
 
 #[cfg(test)]
 mod alarms;
 #[cfg(test)]
 mod bodies;
+#[cfg(test)]
+mod edges;
 #[cfg(test)]
 mod endpoints;
 #[cfg(test)]

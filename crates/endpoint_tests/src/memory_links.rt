@@ -75,8 +75,8 @@ fn sends<L: Link>(link: &mut L, bytes: &[u8]) -> bool {
     send_all(link, bytes).is_ok()
 }
 
-fn becomes_framed<L: Link>(link: &mut L) -> bool {
-    link.go_framed(b"").is_ok()
+fn becomes_framed<L: Link>(link: &mut L, rest: &[u8]) -> bool {
+    link.go_framed(rest).is_ok()
 }
 
 /// What the calls of a link of four steps give.
@@ -108,11 +108,22 @@ fn listed_calls_of_a_link_in_memory_fail(rt: HostRuntime) -> Result<(), Fail> {
 fn a_framed_link_in_memory_gives_its_other_steps(rt: HostRuntime) -> Result<(), Fail> {
     let mut link = link_of_four(&rt, rt.alloc())?;
     assert!(rt; gives(&mut link, b"ab"));
-    assert!(rt; becomes_framed(&mut link));
+    assert!(rt; becomes_framed(&mut link, b""));
     assert!(rt; gives(&mut link, b"xy"));
     assert!(rt; gives(&mut link, b"end"));
-    assert!(rt; becomes_framed(&mut link));
+    assert!(rt; becomes_framed(&mut link, b"v"));
     assert!(rt; gives(&mut link, b"end"));
+    Ok(())
+}
+
+#[test]
+fn a_framed_link_in_memory_gives_what_it_was_handed(rt: HostRuntime) -> Result<(), Fail> {
+    let mut link = link_of_four(&rt, rt.alloc())?;
+    assert!(rt; gives(&mut link, b"ab"));
+    assert!(rt; becomes_framed(&mut link, b"uvw"));
+    for bytes in [b"uv".as_slice(), b"w", b"xy", b"end"] {
+        assert!(rt; gives(&mut link, bytes), "{bytes:?}");
+    }
     Ok(())
 }
 

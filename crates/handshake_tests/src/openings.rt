@@ -134,7 +134,17 @@ fn behind_head(rt: &impl Abort, alloc: Global, frames: &[u8]) -> Result<Outcome,
     Ok(take(rt, alloc, &mut server, &bytes))
 }
 
-const BEHIND: [(&[u8], Outcome); 5] = [
+const BEHIND: [(&[u8], Outcome); 8] = [
+    // a text of as many bytes as one may have, and of one more; and a frame of another type that states so many
+    (&[2, 0, 0, 0, 0, 0, 0, 0, 0, 0, 16, 0, 0], Outcome::Waits),
+    (
+        &[2, 0, 0, 0, 0, 0, 0, 0, 0, 0, 16, 0, 1],
+        Outcome::Ends(OpeningEnd::NoMemory),
+    ),
+    (
+        &[1, 0, 0, 0, 1, 0, 0, 0, 0, 0, 16, 0, 1],
+        Outcome::Ends(OpeningEnd::NoMemory),
+    ),
     (&[], Outcome::Waits),
     // a message of the protocol, and a frame of another type
     (&[1, 0, 0, 0, 1, 0, 0, 0, 0, 0, 0, 0, 0], Outcome::Waits),

@@ -224,21 +224,44 @@ fn framed_link(alloc: Global, head: &[u8], payload: &[u8]) -> Result<MemLink, Fa
     mem_link(alloc, before, after, Vec::new(alloc))
 }
 
-/// A window's link that goes over to frames.
-fn framed_window(alloc: Global) -> Result<MemLink, Fail> {
-    let head = head(alloc, "t1", false, false)?;
+/// All that the client of a window sends behind its head.
+fn window_payload(alloc: Global) -> Result<Vec<u8>, NoMemory> {
     let mut payload = Vec::new(alloc);
     append_payload(&mut payload, SECOND, OPENING)?;
-    framed_link(alloc, &head, &payload)
+    Ok(payload)
 }
 
+/// A window's link that goes over to frames. So many bytes of their payload come with the head.
+fn framed_window(alloc: Global, early: usize) -> Result<MemLink, Fail> {
+    let mut bytes = head(alloc, "t1", false, false)?;
+    let payload = window_payload(alloc)?;
+    let early = if early < payload.len() {
+        early
+    } else {
+        payload.len()
+    };
+    bytes.extend_from_slice(&payload[..early])?;
+    framed_link(alloc, &bytes, &payload[early..])
+}
+
+/// What a window's link comes to that goes over to frames.
+fn framed(alloc: Global, early: usize) -> Found {
+    let mut hub = hub_with(alloc, Vec::new(alloc))?;
+    let mut link = framed_window(alloc, early)?;
+    let Outcome { end, sent, jobs } = served_outcome(alloc, &mut hub, &mut link, 100)?;
+    Ok((end, jobs, sent.ends_with(ACCEPTED)))
+}
+
+/// What comes behind a head in one piece with it is served first.
 #[test]
 fn a_framed_link_is_served(rt: HostRuntime) -> Result<(), Fail> {
-    let mut hub = hub_with(rt.alloc(), Vec::new(rt.alloc()))?;
-    let mut link = framed_window(rt.alloc())?;
-    let Outcome { end, sent, jobs } = served_outcome(rt.alloc(), &mut hub, &mut link, 100)?;
-    let is_last = sent.ends_with(ACCEPTED);
-    assert_eq!(rt; (end, jobs, is_last), (Ended::Closed, 1, true));
+    for early in [0, 1, 13, 60, 1_000] {
+        assert_eq!(rt;
+            framed(rt.alloc(), early)?,
+            (Ended::Closed, 1, true),
+            "{early} with the head"
+        );
+    }
     Ok(())
 }
 

@@ -163,7 +163,7 @@ fn is_met(alloc: Global, server: &mut ChannelServer, act: &Act) -> bool {
         Act::Complete(id) => complete(server, *id) == Ok(true),
         Act::Unasked(id) => complete(server, *id) == Err(ServerFault::NoSuchCall { id: *id }),
         Act::Fire(ids) => fires(alloc, server, ids) == Ok(true),
-        Act::Late(now, late) => server.has_late(alloc, *now) == Ok(*late),
+        Act::Late(now, late) => server.has_late(*now) == *late,
         Act::Tick(now, ids) => ticks(alloc, server, *now, ids) == Ok(true),
     }
 }
