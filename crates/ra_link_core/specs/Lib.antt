@@ -2,3 +2,4 @@ pub mod HubEvents
 pub mod LinkRuns
 pub mod Makes
 pub mod Cores
+pub mod Carried

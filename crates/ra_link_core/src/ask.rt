@@ -2,6 +2,7 @@
 ghost use Rattle.std.specs.Prelude.{◌≡◌, ◌≢◌, ◌<◌, ◌≤◌, ℕ, Some, None};
 ghost use Rattle.ra_base.specs.declared.kind.Kind.TheVariants as kinds;
 ghost use Rattle.ra_registry.specs.Admission.{key_of};
+ghost use Rattle.ra_link_core.specs.Carried.{Carries};
 ghost use Rattle.ra_link_core.specs.LinkRuns.{Serving, attached, asked, welcomed, writes};
 ghost use Rattle.ra_link_core.specs.Makes.{Base, IsGoing, Happens, Makes, RefusesRequest, Holds, Balance, NotUnkept, IsSeated, HasEndCause, outcome_of, over_by};
 ghost use Rattle.ra_opening.specs.Verdicts.{acceptance_bytes};
@@ -39,6 +40,7 @@ fn begin<H: Hub, J: JobSink>(
     ensures seats { Balance (Some seat) (H.seats hub.old) result.seat (H.seats hub.new) }
     ensures kept { H.keep_faults hub.new ≡ H.keep_faults hub.old }
     ensures never { NotUnkept result.end }
+    ensures carries { Carries result.end }
     ensures seated { IsSeated result }
     ensures made { (base : Base) (s v : Serving)
         → IsGoing (Some seat) (H.stands hub.old) (J.told jobs.old) base out.old.items v → Happens s v
@@ -57,6 +59,7 @@ fn begin<H: Hub, J: JobSink>(
 /// Answers a request that the hub refuses.
 fn refuse(alloc: Global, fault: HubFault, out: &mut Vec<u8>) -> Step
     ensures answers { RefusesRequest fault result out.old.items out.new.items }
+    ensures carries { Carries result.end }
     ensures seated { IsSeated result }
 {
     match fault {
@@ -88,6 +91,7 @@ fn welcome<H: Hub, J: JobSink>(
     ensures seats { Balance (Some seat) (H.seats hub.old) result.seat (H.seats hub.new) }
     ensures kept { H.keep_faults hub.new ≡ H.keep_faults hub.old }
     ensures never { NotUnkept result.end }
+    ensures carries { Carries result.end }
     ensures seated { IsSeated result }
     ensures made { (place : ℕ) (base : Base) (s v : Serving) → kind ≡ seat.key.kind
         → IsGoing (Some seat) (H.stands hub.old) (J.told jobs.old) base out.old.items (record v { seat = Some seat })
@@ -130,6 +134,7 @@ pub(crate) fn ask<H: Hub, J: JobSink>(
     ensures holds { Holds (H.seats hub.new) result.seat }
     ensures seats { Balance None (H.seats hub.old) result.seat (H.seats hub.new) }
     ensures cause { HasEndCause (H.keep_faults hub.old) (H.keep_faults hub.new) result.end }
+    ensures carries { Carries result.end }
     ensures seated { IsSeated result }
     ensures made { (place : ℕ) (base : Base) (s v : Serving)
         → IsGoing None (H.stands hub.old) (J.told jobs.old) base out.old.items v → Happens s v

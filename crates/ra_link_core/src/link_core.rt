@@ -7,6 +7,8 @@ ghost use Rattle.ra_opening.specs.Comes.{AsksFraming};
 ghost use Rattle.ra_opening.specs.Openings.{grounds_of};
 ghost use Rattle.ra_opening.specs.Stands.{HasNoHead, IsOpen, IsInShake, NeedsFraming, new_opening};
 ghost use Rattle.ra_hub.specs.Hubs as spec;
+ghost use Rattle.ra_opening.specs.Budget.{IsLong};
+ghost use Rattle.ra_link_core.specs.Carried.{EndCarries, Carries};
 ghost use Rattle.ra_link_core.specs.LinkRuns.{Serving, piece_done, with_piece, hub_left};
 ghost use Rattle.ra_link_core.specs.Makes.{Holds, Balance, HasEndCause, outcome_of, opening_end};
 ghost use Rattle.ra_link_core.specs.Cores.{IsFit, IsOpening, CoreStands, CoreMakes, NotHeld, KnowsHead, OnNoHead, OnOver, HeldOrShort, IsHeld, IsHeldWith, IsPastHead, OnHeld, SetsFramed, seat_in, phase_of, IsDone};
@@ -39,7 +41,8 @@ struct After {
 
 /// The end that the end of an opening makes.
 fn opening_end(end: OpeningEnd) -> CoreEnd
-    ensures { result ≡ opening_end end }
+    ensures value { result ≡ opening_end end }
+    ensures carries { IsLong end → EndCarries result }
 {
     match end {
         OpeningEnd::BadHead { fault } => CoreEnd::BadHead { fault },
@@ -91,6 +94,7 @@ fn open_piece<H: Hub, J: JobSink, E: Entropy, G: Signer>(
     ensures holds { Holds (H.seats hub.new) (seat_in result.phase) }
     ensures seats { Balance None (H.seats hub.old) (seat_in result.phase) (H.seats hub.new) }
     ensures cause { HasEndCause (H.keep_faults hub.old) (H.keep_faults hub.new) result.end }
+    ensures carries { Carries result.end }
     ensures done { IsSome result.end → IsDone result.phase }
     ensures made { (draw : ℕ → List ℕ) (head : Head Upgrade HeadFault) (text before : List ℕ) (s : Serving)
         → IsRequestOf (text ++ piece.now) head → (NeedsFraming opening.phase → ⊥)
@@ -145,6 +149,7 @@ fn take_piece<H: Hub, J: JobSink, E: Entropy, G: Signer>(
     ensures holds { Holds (H.seats hub.new) (seat_in result.phase) }
     ensures seats { Balance (seat_in phase) (H.seats hub.old) (seat_in result.phase) (H.seats hub.new) }
     ensures cause { HasEndCause (H.keep_faults hub.old) (H.keep_faults hub.new) result.end }
+    ensures carries { Carries result.end }
     ensures made { (draw : ℕ → List ℕ) (head : Head Upgrade HeadFault) (text before : List ℕ) (s : Serving)
         → IsRequestOf (text ++ piece.now) head → NotHeld phase
         → let grounds = grounds_of settings.now.shake (G.signature_of signer.now) (G.counts signer.now) draw in
@@ -241,6 +246,8 @@ impl LinkCore {
         ensures holds { Holds (H.seats hub.new) (seat_in self.new) }
         ensures seats { Balance (seat_in self.old) (H.seats hub.old) (seat_in self.new) (H.seats hub.new) }
         ensures cause { HasEndCause (H.keep_faults hub.old) (H.keep_faults hub.new) result }
+        // over any hub, what an end carries is true
+        ensures carries { Carries result }
         ensures made { (draw : ℕ → List ℕ) (head : Head Upgrade HeadFault) (text before : List ℕ) (s : Serving)
             → IsRequestOf (text ++ piece.now) head → NotHeld self.old
             → let grounds = grounds_of settings.now.shake (G.signature_of signer.now) (G.counts signer.now) draw in

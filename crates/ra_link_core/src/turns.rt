@@ -1,6 +1,9 @@
 //! The turns of a session over a link.
 ghost use Rattle.std.specs.Prelude.{◌≡◌, ◌<◌, ◌++◌, ℕ, List, Option, Some, None, OnOk, OnErr};
 ghost use Rattle.ra_hub.specs.Jobs.{SeenJob};
+ghost use Rattle.ra_hub.specs.Faults.{IsOfAttach, IsOfTurn};
+ghost use Rattle.ra_session.specs.Carried.{AttachCarries, TurnCarries};
+ghost use Rattle.ra_link_core.specs.Carried.{EndCarries, Carries};
 ghost use Rattle.ra_link_core.specs.LinkRuns.{Serving, served, turned_again, turn_ended, writes};
 ghost use Rattle.ra_link_core.specs.Makes.{Base, IsGoing, Happens, Follows, Makes, RefusesTurn, Holds, Balance, NotUnkept, IsSeated, with_work, going_on, seat_after, step_of, outcome_of, session_end, hub_end};
 
@@ -31,6 +34,8 @@ pub(crate) enum TurnStep {
 fn session_end(fault: SessionFault) -> CoreEnd
     ensures value { result ≡ session_end fault }
     ensures never { NotUnkept (Some result) }
+    ensures turned { TurnCarries fault → EndCarries result }
+    ensures attached { AttachCarries fault → EndCarries result }
 {
     match fault {
         SessionFault::Ended { cause } => CoreEnd::Ended { cause },
@@ -50,6 +55,8 @@ fn session_end(fault: SessionFault) -> CoreEnd
 pub(crate) fn hub_end(fault: HubFault) -> CoreEnd
     ensures value { result ≡ hub_end fault }
     ensures never { NotUnkept (Some result) }
+    ensures turned { IsOfTurn fault → EndCarries result }
+    ensures attached { IsOfAttach fault → EndCarries result }
 {
     match fault {
         HubFault::Session { fault } => session_end(fault),
@@ -114,6 +121,7 @@ fn after_turn<H: Hub>(
     ensures seats { Balance (Some seat) (H.seats hub.old) (seat_after result) (H.seats hub.new) }
     ensures kept { H.keep_faults hub.new ≡ H.keep_faults hub.old }
     ensures never { NotUnkept (step_of result).end }
+    ensures carries { Carries (step_of result).end }
     ensures made { (n : ℕ) (jobs : Option (List SeenJob)) (base : Base) (out : List ℕ) (s v u : Serving)
         → IsGoing (Some seat) (H.stands hub.old) jobs base out v → Happens s v
         → turned_again n seat now (turn_ended ended again seat now v) ≡ u
@@ -135,10 +143,12 @@ fn after_turn<H: Hub>(
 fn refuse_turn<H: Hub>(hub: &mut H, seat: Seat, end: CoreEnd, now: Moment) -> TurnStep
     requires seat { 0 < H.seats hub.old seat }
     requires never { NotUnkept (Some end) }
+    requires carries { EndCarries end }
     ensures holds { Holds (H.seats hub.new) (seat_after result) }
     ensures seats { Balance (Some seat) (H.seats hub.old) (seat_after result) (H.seats hub.new) }
     ensures kept { H.keep_faults hub.new ≡ H.keep_faults hub.old }
     ensures never { NotUnkept (step_of result).end }
+    ensures carries { Carries (step_of result).end }
     ensures made { RefusesTurn end seat now (H.stands hub.old) (H.stands hub.new) result }
 {
     if let CoreEnd::BadIpc { fault, message } = end {
@@ -178,6 +188,7 @@ fn take_turn<H: Hub, J: JobSink>(
     ensures seats { Balance (Some seat) (H.seats hub.old) (seat_after result) (H.seats hub.new) }
     ensures kept { H.keep_faults hub.new ≡ H.keep_faults hub.old }
     ensures never { NotUnkept (step_of result).end }
+    ensures carries { Carries (step_of result).end }
     ensures made { (n : ℕ) (base : Base) (s v : Serving)
         → IsGoing (Some seat) (H.stands hub.old) (with_work seat.key turn.happened (J.told jobs.old)) base out.old.items v
         → Happens s v
@@ -213,6 +224,7 @@ fn turn_once<H: Hub, J: JobSink>(
     ensures seats { Balance (Some seat) (H.seats hub.old) (seat_after result) (H.seats hub.new) }
     ensures kept { H.keep_faults hub.new ≡ H.keep_faults hub.old }
     ensures never { NotUnkept (step_of result).end }
+    ensures carries { Carries (step_of result).end }
     ensures made { (n : ℕ) (base : Base) (s v : Serving)
         → IsGoing (Some seat) (H.stands hub.old) (J.told jobs.old) base out.old.items v → Happens s v
         → Follows result (H.stands hub.new) (J.told jobs.new) base out.new.items n now s (served n seat piece.now now v) }
@@ -259,6 +271,7 @@ pub(crate) fn serve_turns<H: Hub, J: JobSink>(
     ensures seats { Balance (Some seat) (H.seats hub.old) result.seat (H.seats hub.new) }
     ensures kept { H.keep_faults hub.new ≡ H.keep_faults hub.old }
     ensures never { NotUnkept result.end }
+    ensures carries { Carries result.end }
     ensures seated { IsSeated result }
     ensures made { (base : Base) (s v : Serving)
         → IsGoing (Some seat) (H.stands hub.old) (J.told jobs.old) base out.old.items v → Happens s v

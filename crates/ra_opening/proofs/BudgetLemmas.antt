@@ -1,7 +1,9 @@
 -- Frames that are passed over, and how many bytes wait for the rest of a frame.
 use Rattle.std.proofs.Common.{◌≡◌, ℕ, ◌+◌, ◌<◌, ◌≤◌, ◌⊎◌, ◌&&◌, inl, inr, Bool, true, false, cond, leb, ltb, Option, Some, None, List, length, drop, refl, sym, ap, subst, ◌∙◌, arith}
-use Rattle.std.proofs.lemmas.Bool.{leb-false, ltb-false, cond-true, le-leb, cases_lt}
-use Rattle.ra_frame.specs.Fronts.{HasFrame, IsPartial, is_above, states_above}
+use Rattle.std.proofs.lemmas.Bool.{and_parts, leb-false, ltb-false, ltb-true, cond-true, le-leb, cases_lt}
+use Rattle.ra_frame.specs.declared.reader.FrameFault.{FrameFault}
+use Rattle.ra_frame.specs.declared.reader.FrameFault.TheVariants as frame_faults
+use Rattle.ra_frame.specs.Fronts.{HasFrame, IsPartial, IsTooLong, is_above, states_above}
 use Rattle.ra_model.specs.declared.frame.Frame.{Frame}
 use Rattle.ra_model.specs.Frames.{body_limit}
 use Rattle.ra_model.specs.FirstFrame.{first_frame, is_wide, header_len, stated, has_frame, is_too_long, split_frame}
@@ -11,8 +13,8 @@ use Rattle.ra_items.specs.Heads.{Head}
 use Rattle.ra_items.specs.Readers.{Reader, HasRead}
 use Rattle.ra_items.proofs.ReaderLemmas.{read_frame}
 use Rattle.ra_shake.specs.Limits.{text_limit}
-use Rattle.ra_opening.specs.Budget.{most_waiting}
-use Rattle.ra_opening.specs.Comes.{PassesOver}
+use Rattle.ra_opening.specs.Budget.{most_waiting, FoundLong}
+use Rattle.ra_opening.specs.Comes.{PassesOver, found_of}
 use Rattle.ra_opening.proofs.FindLemmas.{passes_on, frame_shortens, ReadsOne}
 
 -- a frame takes bytes
@@ -78,3 +80,13 @@ waits_within text partial within = waits_by (cases_lt (length text) (header_len 
         short_by text (header_len (is_wide text)) (stated text) (header_most (is_wide text)) there partial.not_too_long
         (no_first _ _ partial.no_frame)
         (sym (ap (λ (o : Option ℕ). is_above text_limit o) (cond-true (leb (header_len (is_wide text)) (length text)) (Some (stated text)) None (le-leb (header_len (is_wide text)) (length text) there))) ∙ within)
+
+-- ---- a length that is too long
+
+pub long_above : (text : List ℕ) (n : ℕ) → IsTooLong text n → body_limit < n
+unfolding is_too_long
+long_above text n long = subst (λ (m : ℕ). body_limit < m) long.stated (ltb-true body_limit (stated text) (and_parts _ _ long.too_long).1)
+
+pub fault_long : (text : List ℕ) (fault : FrameFault) → ((n : ℕ) → fault ≡ frame_faults.TooLong n → IsTooLong text n) → FoundLong (found_of fault)
+fault_long text (frame_faults.TooLong n) told = long_above text n (told n refl)
+fault_long text frame_faults.NoMemory told = tt

@@ -9,6 +9,7 @@ ghost use Rattle.ra_upgrade.specs.declared.request_head.Upgrade.{Upgrade};
 ghost use Rattle.ra_opening.specs.Openings.{grounds_of};
 ghost use Rattle.ra_opening.specs.Stands.{IsUnopened};
 ghost use Rattle.ra_opening.specs.Begins.{BeginsShake, AcceptsHead, RefusesHead, Heads, Draws, token_by, draws_before, IsBegunIn, IsKnownIn, IsToBeFramed};
+ghost use Rattle.ra_opening.specs.Budget.{IsLong, HeadedLong};
 ghost use Rattle.ra_opening.specs.Comes.{AsksFraming};
 
 use crate::ends::OpeningEnd;
@@ -130,7 +131,8 @@ fn write_answer(out: &mut Vec<u8>, text: Result<Message, NoMemory>) -> Result<()
 
 /// Answers a refused head.
 fn refuse_head(alloc: Global, fault: HeadFault, out: &mut Vec<u8>) -> OpeningEnd
-    ensures { RefusesHead fault result out.old.items out.new.items }
+    ensures refuses { RefusesHead fault result out.old.items out.new.items }
+    ensures long { IsLong result }
 {
     if fault == HeadFault::NoMemory {
         return OpeningEnd::NoMemory;
@@ -159,6 +161,7 @@ pub(crate) fn open_head<E: Entropy>(
     ensures known { IsKnownIn result reader.old.unread }
     ensures framing { AsksFraming reader.old.unread → IsToBeFramed result out.old.items out.new.items }
     ensures begun { IsBegunIn result reader.new }
+    ensures long { HeadedLong result }
     ensures bounded { result ≡ Headed.Waits → length reader.new.unread < max_head }
 {
     match reader.next_request(alloc) {

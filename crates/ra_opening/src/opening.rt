@@ -7,7 +7,7 @@ ghost use Rattle.ra_upgrade.specs.declared.request_head.HeadFault.{HeadFault};
 ghost use Rattle.ra_upgrade.specs.declared.request_head.Upgrade.{Upgrade};
 ghost use Rattle.ra_opening.specs.Openings.{Grounds, grounds_of};
 ghost use Rattle.ra_opening.specs.Stands.{OpeningState, Stands, IsShaking, IsUnopened, IsFed, IsOpen, IsFinished, HasNoHead, PhaseFits, IsInShake, NeedsFraming, new_opening, framed_phase};
-ghost use Rattle.ra_opening.specs.Budget.{WaitsBounded};
+ghost use Rattle.ra_opening.specs.Budget.{WaitsBounded, EndsLong};
 ghost use Rattle.ra_opening.specs.declared.ends.OpeningEnd.{OpeningEnd};
 ghost use Rattle.ra_opening.specs.Comes.{Comes, IsKnown, AsksFraming, WaitsForFraming, AsksServed};
 
@@ -65,6 +65,7 @@ fn go_on<G: Signer>(
         out.new.items }
     ensures served { AsksServed result.step }
     ensures bounded { WaitsBounded result.phase reader.new }
+    ensures long { EndsLong result.step }
     ensures fits { PhaseFits result.phase reader.new }
     ensures once { NeedsFraming result.phase → ⊥ }
     ensures open { result.step ≡ OpeningStep.Waits → result.phase ≢ Phase.Over }
@@ -97,6 +98,7 @@ fn begin<E: Entropy, G: Signer>(
         → WaitsForFraming result.step result.phase out.old.items out.new.items }
     ensures served { AsksServed result.step }
     ensures bounded { WaitsBounded result.phase reader.new }
+    ensures long { EndsLong result.step }
     ensures fits { PhaseFits result.phase reader.new }
     ensures open { result.step ≡ OpeningStep.Waits → result.phase ≢ Phase.Over }
 {
@@ -138,6 +140,7 @@ fn take_piece<E: Entropy, G: Signer>(
     ensures draws { (phase ≡ Phase.Heading → ⊥) → E.draw entropy.new ≡ E.draw entropy.old }
     ensures served { AsksServed result.step }
     ensures bounded { WaitsBounded result.phase reader.new }
+    ensures long { EndsLong result.step }
     ensures fits { PhaseFits result.phase reader.new }
     ensures open { result.step ≡ OpeningStep.Waits → result.phase ≢ Phase.Over }
 {
@@ -220,6 +223,7 @@ impl Opening {
         ensures draws { (HasNoHead self.old → ⊥) → E.draw entropy.new ≡ E.draw entropy.old }
         ensures served { AsksServed result }
         ensures bounded { WaitsBounded self.new.phase self.new.reader }
+        ensures long { EndsLong result }
         ensures open { result ≡ OpeningStep.Waits → IsOpen self.new }
     {
         let phase = mem::replace(&mut self.phase, Phase::Over);
@@ -260,6 +264,7 @@ impl Opening {
         ensures served { AsksServed result }
         // at most a head, or the header and the body of a text, wait for what is missing of them
         ensures bounded { WaitsBounded self.new.phase self.new.reader }
+        ensures long { EndsLong result }
         ensures given_up { (end : OpeningEnd) → result ≡ OpeningStep.End end → self.new.reader.unread ≡ [] }
         ensures open { result ≡ OpeningStep.Waits → IsOpen self.new }
     {

@@ -12,7 +12,7 @@ ghost use Rattle.ra_upgrade.specs.declared.request_head.HeadFault.{HeadFault};
 ghost use Rattle.ra_upgrade.specs.declared.request_head.Upgrade.{Upgrade};
 ghost use Rattle.ra_opening.specs.Openings.{Grounds, grounds_of};
 ghost use Rattle.ra_opening.specs.Stands.{IsShaking};
-ghost use Rattle.ra_opening.specs.Budget.{FoundWithin, WaitsWithin};
+ghost use Rattle.ra_opening.specs.Budget.{FoundWithin, WaitsWithin, FoundLong, EndsLong};
 ghost use Rattle.ra_opening.specs.Comes.{PassesOver, Finds, Answers, Refuses, Shakes, AsksServed, IsControl, found_of};
 
 use crate::ends::{OpeningEnd, OpeningStep};
@@ -91,6 +91,7 @@ fn find(alloc: Global, reader: &mut ItemReader) -> Found
     ensures behind { reader.new.behind_head ≡ true }
     ensures shorter { IsControl result → length reader.new.unread < length reader.old.unread }
     ensures bounded { FoundWithin result reader.new }
+    ensures long { FoundLong result }
     ensures found { (grounds : Grounds) (head : Head Upgrade HeadFault) (text before : List ℕ) (next : ℕ → List ℕ)
         (shake : ServerState) (out : List ℕ)
         → IsShaking grounds head text before next reader.old shake out
@@ -162,6 +163,7 @@ pub(crate) fn shake_on<G: Signer>(
         → Shakes result grounds head text before next reader.new shake.new out.new.items }
     ensures served { AsksServed result }
     ensures bounded { WaitsWithin result reader.new }
+    ensures long { EndsLong result }
     ensures open { result ≡ OpeningStep.Waits → shake.new.stage ≢ stages.Over }
     ensures behind { reader.new.behind_head ≡ true }
 {

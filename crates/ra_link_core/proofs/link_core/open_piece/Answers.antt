@@ -37,7 +37,7 @@ returns-in-End-clause-made g c = λ draw head text before s is unheld x.
     let stood = unheld_stands c.args.opening grounds head text before (g.E.Entropy.draw c.args.entropy.now) (g.H.Hub.stands c.args.hub.now) (g.J.JobSink.told c.args.jobs.now) c.args.out.now.items s x unheld in
     let ends = c.in-End.ensures.made draw head text before is stood in
     let cut = cut_or_not c.args.opening grounds head text c.args.piece.now before (g.E.Entropy.draw c.args.entropy.now) c.args.out.now.items is stood unheld in
-    rw c.opening_end.ensures
+    rw c.opening_end.ensures.value
     (opening_ends_so c.in-End.end c.args.opening grounds head text c.args.piece.now before (g.E.Entropy.draw c.args.entropy.now) (g.E.Entropy.draw c.piece.new.entropy)
     (g.H.Hub.stands c.args.hub.now) (g.J.JobSink.told c.args.jobs.now) c.args.out.now.items c.piece.new.out.items c.args.now s x unheld cut c.in-End.ensures.framing c.piece.ensures.draws ends)
 

@@ -28,6 +28,7 @@ loop-turn-preserved g c = (
       let same = next_turn (c.args.more - c.loop-turn.turn) m c.in-Again.seat c.args.now f.part (served c.args.more c.args.seat c.args.piece.now c.args.now v) one f.goes_on in
       let made = c.turn_once-state-in-Again.ensures.made m base s f.part f.going f.came in
       rw same at made,
+  c.turn_once-state-in-Again.ensures.carries,
 )
 
 pub returns-clause-made : goal.returns-clause-made

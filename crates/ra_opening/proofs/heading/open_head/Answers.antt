@@ -31,7 +31,7 @@ pub returns-in-Err-clause-made : goal.returns-in-Err-clause-made
 returns-in-Err-clause-made g c = λ signature counts draw head text before is x.
     let grounds : Grounds = record { settings = c.args.settings.now; signature = signature; counts = counts; draw = draw } in
     head_refused grounds head text before (g.E.Entropy.draw c.args.entropy.now) c.args.reader.now c.next_request.new.self
-    c.args.out.now.items c.refuse_head.new.out.items c.in-Err.fault c.refuse_head.result x (c.in-Err.ensures.read head text [] 0 is x.read) c.refuse_head.ensures
+    c.args.out.now.items c.refuse_head.new.out.items c.in-Err.fault c.refuse_head.result x (c.in-Err.ensures.read head text [] 0 is x.read) c.refuse_head.ensures.refuses
 
 pub returns-in-Ok-None-clause-known : goal.returns-in-Ok-None-clause-known
 returns-in-Ok-None-clause-known g c =
@@ -45,7 +45,7 @@ returns-in-Ok-clause-known g c =
 
 pub returns-in-Err-clause-known : goal.returns-in-Err-clause-known
 returns-in-Err-clause-known g c =
-    known_refused c.args.reader.now.unread c.in-Err.fault c.refuse_head.result c.args.out.now.items c.refuse_head.new.out.items c.refuse_head.ensures c.in-Err.ensures.refused
+    known_refused c.args.reader.now.unread c.in-Err.fault c.refuse_head.result c.args.out.now.items c.refuse_head.new.out.items c.refuse_head.ensures.refuses c.in-Err.ensures.refused
 
 pub returns-in-Ok-None-clause-framing : goal.returns-in-Ok-None-clause-framing
 returns-in-Ok-None-clause-framing g c = λ asks.
@@ -59,4 +59,4 @@ returns-in-Ok-clause-framing g c = λ asks.
 
 pub returns-in-Err-clause-framing : goal.returns-in-Err-clause-framing
 returns-in-Err-clause-framing g c = λ asks.
-    refused_unframed c.args.reader.now.unread c.in-Err.fault c.refuse_head.result c.args.out.now.items c.refuse_head.new.out.items c.refuse_head.ensures c.in-Err.ensures.refused asks
+    refused_unframed c.args.reader.now.unread c.in-Err.fault c.refuse_head.result c.args.out.now.items c.refuse_head.new.out.items c.refuse_head.ensures.refuses c.in-Err.ensures.refused asks

@@ -1,7 +1,7 @@
 use Rattle.std.proofs.Common.{◌≡◌, ◌<◌, Some, length, refl, arith}
 use Rattle.ra_model.specs.FirstFrame.{first_frame}
 use Rattle.ra_opening.proofs.FindLemmas.{find_waits, find_fault, find_memory, find_control, find_left, frame_shortens}
-use Rattle.ra_opening.proofs.BudgetLemmas.{waits_within, is_left}
+use Rattle.ra_opening.proofs.BudgetLemmas.{waits_within, is_left, fault_long}
 use Rattle.ra_opening.proofs.shaking.find.Goals as goal
 
 pub returns-then-not-pass_over-clause-found : goal.returns-then-not-pass_over-clause-found
@@ -40,3 +40,6 @@ returns-else-frame-eq-CONTROL-clause-found c = λ g head text before next shake 
     find_left g head text before next c.pass_over.new.reader c.next_frame.new.self shake out c.in-Ok-Some.frame (c.pass_over.ensures.passed.keeps g head text before next shake out x)
     (λ done at has. rw c.in-Ok-Some.field-0-is at (c.in-Ok-Some.ensures.of_request head text done at has))
     (is_left c.in-Ok-Some.frame.kind (c.if-not-pass_over.ensures.counts refl c.in-Ok-Some.frame c.next_frame.new.self.unread first) c.if-frame-eq-CONTROL.false)
+
+pub returns-in-Err-clause-long : goal.returns-in-Err-clause-long
+returns-in-Err-clause-long c = rw c.found_of.ensures (fault_long c.pass_over.new.reader.unread c.in-Err.fault (λ n is. c.in-Err.ensures.too_long n is))
