@@ -9,6 +9,8 @@ ghost use Rattle.ra_ports.specs.Links.{StartsPayload, IsHanded};
 ghost use Rattle.ra_base.specs.declared.key.Seat.{Seat};
 ghost use Rattle.ra_hub.specs.Hubs as spec;
 ghost use Rattle.ra_hub.specs.Jobs.{SeenJob};
+ghost use Rattle.ra_link_core.specs.Carried.{EndCarries};
+ghost use Rattle.ra_link.specs.Carried.{LinkCarries};
 ghost use Rattle.ra_link_core.specs.LinkRuns.{Serving, piece_done, with_piece, new_serving};
 ghost use Rattle.ra_link_core.specs.Makes.{Happens, Holds, Balance};
 ghost use Rattle.ra_link_core.specs.Cores.{CoreStands, NotHeld, IsHeld, IsBehindHead, OnHeld, OnNoHead, SetsFramed, seat_in};
@@ -25,7 +27,8 @@ use std::alloc::{AllocError, Global};
 const PIECE: usize = 65_536;
 
 fn link_end(end: CoreEnd) -> LinkEnd
-    ensures { result ≡ link_end end }
+    ensures value { result ≡ link_end end }
+    ensures carries { EndCarries end → LinkCarries result }
 {
     match end {
         CoreEnd::BadHead { fault } => LinkEnd::BadHead { fault },
@@ -43,7 +46,8 @@ fn link_end(end: CoreEnd) -> LinkEnd
 
 /// The end where not all could be sent.
 fn broken_by(end: CoreEnd) -> LinkEnd
-    ensures { result ≡ broken_end (Some end) }
+    ensures value { result ≡ broken_end (Some end) }
+    ensures carries { LinkCarries result }
 {
     match end {
         CoreEnd::NoMemory => LinkEnd::NoMemory,
@@ -63,7 +67,8 @@ fn broken_by(end: CoreEnd) -> LinkEnd
 }
 
 fn broken(end: Option<CoreEnd>) -> LinkEnd
-    ensures { result ≡ broken_end end }
+    ensures value { result ≡ broken_end end }
+    ensures carries { LinkCarries result }
 {
     match end {
         Some(end) => broken_by(end),
@@ -89,6 +94,7 @@ fn frame_link<L: Link>(link: &mut L, core: &mut LinkCore) -> Option<LinkEnd>
     ensures room { (L.incoming link.new).room ≡ (L.incoming link.old).room }
     ensures later { L.faults link.old ≤ L.faults link.new }
     ensures cause { OnSome result (λ end. OnBroke end (Rose (L.faults link.old) (L.faults link.new))) }
+    ensures carries { IfSome result LinkCarries }
 {
     let framed = match core.framing() {
         None => return None,
@@ -126,6 +132,7 @@ fn serve_piece<L: Link, H: Hub, J: JobSink, E: Entropy, G: Signer>(
     ensures room { (L.incoming link.new).room ≡ (L.incoming link.old).room }
     ensures later { L.faults link.old ≤ L.faults link.new }
     ensures cause { OnSome result (λ end. OnBroke end (Rose (L.faults link.old) (L.faults link.new))) }
+    ensures carries { IfSome result LinkCarries }
     ensures kept_later { H.keep_faults hub.old ≤ H.keep_faults hub.new }
     ensures kept { OnSome result (λ end. OnNotKept end (Rose (H.keep_faults hub.old) (H.keep_faults hub.new))) }
     ensures never { OnSome result IsPieceEnd }
@@ -204,6 +211,7 @@ fn serve_pieces<L: Link, H: Hub, J: JobSink, C: Clock, E: Entropy, G: Signer>(
     ensures holds { Holds (H.seats hub.new) (seat_in core.new) }
     ensures seats { Balance (seat_in core.old) (H.seats hub.old) (seat_in core.new) (H.seats hub.new) }
     ensures cause { OnBroke (link_outcome result.end) (Rose (L.faults link.old) (L.faults link.new)) }
+    ensures carries { LinkCarries result.end }
     ensures kept { OnNotKept (link_outcome result.end) (Rose (H.keep_faults hub.old) (H.keep_faults hub.new)) }
     ensures ended { (L.incoming link.old).ended ≡ false
         → EndedSo (link_outcome result.end) (L.incoming link.new).ended }
@@ -265,6 +273,8 @@ pub fn serve_link<L: Link, H: Hub, J: JobSink, C: Clock, E: Entropy, G: Signer>(
 ) -> LinkEnd
     ensures seats { (other : Seat) → H.seats hub.new other ≡ H.seats hub.old other }
     ensures cause { OnBroke (link_outcome result) (Rose (L.faults link.old) (L.faults link.new)) }
+    // over any link, hub, jobs and clock, what the end carries is true
+    ensures carries { LinkCarries result }
     ensures kept { OnNotKept (link_outcome result) (Rose (H.keep_faults hub.old) (H.keep_faults hub.new)) }
     ensures ended { (L.incoming link.old).ended ≡ false → EndedSo (link_outcome result) (L.incoming link.new).ended }
     ensures calls { MadeCalls (link_outcome result) turns 65536 (L.incoming link.old) (L.incoming link.new) }

@@ -20,7 +20,7 @@ returns-in-Err-clause-made g c = λ draw head text first start s is free stands 
     let grounds : Grounds = grounds_of c.args.settings.now.shake (g.G.Signer.signature_of c.args.signer.now) (g.G.Signer.counts c.args.signer.now) draw in
     let made = c.piece-end.ensures.made draw head text s.out s is free (rw c.new-out.ensures.items stands) in
     let sends = rw c.deref.ensures.value at c.in-Err.ensures.err in
-    rw c.broken.ensures
+    rw c.broken.ensures.value
     (broken_piece c.piece-end.result c.piece-end.new.self grounds head (with_piece head text c.args.piece.now) s.out (g.E.Entropy.draw c.piece-end.new.entropy)
     (g.H.Hub.stands c.piece-end.new.hub) (g.J.JobSink.told c.piece-end.new.jobs) c.piece-end.new.out.items first (g.L.Link.sent c.args.link.now) (g.L.Link.sent c.send_all.new.link)
     (Rose (g.L.Link.faults c.args.link.now) (g.L.Link.faults c.send_all.new.link)) start s (piece_done grounds head text (record { bytes = c.args.piece.now; now = c.args.now }) s)
@@ -31,7 +31,7 @@ returns-in-Some-clause-made g c = λ draw head text first start s is free stands
     let grounds : Grounds = grounds_of c.args.settings.now.shake (g.G.Signer.signature_of c.args.signer.now) (g.G.Signer.counts c.args.signer.now) draw in
     let made = c.in-Some.ensures.made draw head text s.out s is free (rw c.new-out.ensures.items stands) in
     let sends = rw c.deref.ensures.value at c.in-Ok.ensures.ok in
-    rw c.link_end.ensures
+    rw c.link_end.ensures.value
     (sent_end c.in-Some.end c.piece-end.new.self grounds head (with_piece head text c.args.piece.now) s.out (g.E.Entropy.draw c.piece-end.new.entropy)
     (g.H.Hub.stands c.piece-end.new.hub) (g.J.JobSink.told c.piece-end.new.jobs) c.piece-end.new.out.items first (g.L.Link.sent c.args.link.now) (g.L.Link.sent c.send_all.new.link)
     (Rose (g.L.Link.faults c.args.link.now) (g.L.Link.faults c.send_all.new.link)) start s (piece_done grounds head text (record { bytes = c.args.piece.now; now = c.args.now }) s)
@@ -53,7 +53,7 @@ pub returns-in-Err-clause-came : goal.returns-in-Err-clause-came
 returns-in-Err-clause-came g c = λ draw head text first s is free behind stands sent.
     let grounds : Grounds = grounds_of c.args.settings.now.shake (g.G.Signer.signature_of c.args.signer.now) (g.G.Signer.counts c.args.signer.now) draw in
     let whole = with_piece head text c.args.piece.now in
-    rw c.broken.ensures
+    rw c.broken.ensures.value
     (frames_stay (is_framed head text) (is_framed head whole) (broken_end c.piece-end.result) (drop head.size (text ++ c.args.piece.now))
     (length (first ++ (piece_done grounds head text (record { bytes = c.args.piece.now; now = c.args.now }) s).out)) (g.L.Link.incoming c.args.link.now) (g.L.Link.incoming c.send_all.new.link)
     c.in-Err.ensures.keeps
@@ -65,7 +65,7 @@ pub returns-in-Some-clause-came : goal.returns-in-Some-clause-came
 returns-in-Some-clause-came g c = λ draw head text first s is free behind stands sent.
     let grounds : Grounds = grounds_of c.args.settings.now.shake (g.G.Signer.signature_of c.args.signer.now) (g.G.Signer.counts c.args.signer.now) draw in
     let whole = with_piece head text c.args.piece.now in
-    rw c.link_end.ensures
+    rw c.link_end.ensures.value
     (frames_stay (is_framed head text) (is_framed head whole) (link_end c.in-Some.end) (drop head.size (text ++ c.args.piece.now))
     (length (first ++ (piece_done grounds head text (record { bytes = c.args.piece.now; now = c.args.now }) s).out)) (g.L.Link.incoming c.args.link.now) (g.L.Link.incoming c.send_all.new.link)
     c.in-Ok.ensures.keeps
@@ -104,13 +104,13 @@ returns-clause-came g c = λ draw head text first s is free behind stands sent.
 
 pub returns-in-Err-clause-known : goal.returns-in-Err-clause-known
 returns-in-Err-clause-known g c =
-    rw c.broken.ensures
+    rw c.broken.ensures.value
     (on_no_head c.args.core.now (λ unread. KnowsHead (outcome_of c.piece-end.result) (unread ++ c.args.piece.now)) (λ unread. OnNotShort (link_outcome (broken_end c.piece-end.result)) (HasHead (unread ++ c.args.piece.now)))
     (λ unread known. knows_broken c.piece-end.result (unread ++ c.args.piece.now) known) c.piece-end.ensures.known)
 
 pub returns-in-Some-clause-known : goal.returns-in-Some-clause-known
 returns-in-Some-clause-known g c =
-    rw c.link_end.ensures
+    rw c.link_end.ensures.value
     (on_no_head c.args.core.now (λ unread. KnowsHead (outcome_of (Some c.in-Some.end)) (unread ++ c.args.piece.now)) (λ unread. OnNotShort (link_outcome (link_end c.in-Some.end)) (HasHead (unread ++ c.args.piece.now)))
     (λ unread known. knows_ended c.in-Some.end (unread ++ c.args.piece.now) known) c.in-Some.ensures.known)
 
