@@ -1,18 +1,20 @@
 -- Requests by their arrivals: one more behind all others, one taken out, one changed.
-use Rattle.std.proofs.Common.{◌≡◌, ℕ, ◌+◌, ◌<◌, Bool, List, [], ◌∷◌, ◌++◌, map, true, false, not, leb, Option, Some, None, refl, sym, ap, ◌∙◌, arith, inl, inr, option_map, append_assoc, append-nil}
+use Rattle.std.proofs.Common.{◌≡◌, ℕ, ◌+◌, ◌<◌, ◌^◌, Bool, List, [], ◌∷◌, ◌++◌, map, true, false, not, leb, Option, Some, None, refl, sym, ap, ◌∙◌, arith, ◌⊎◌, inl, inr, option_map, append_assoc, append-nil}
 use Rattle.std.proofs.lemmas.Bool.{cases_Bool, cond_both, eqb-true, eqb-false, ne_eqb, eq-eqb}
 use Rattle.std.proofs.lemmas.Map.{keys-set_value}
-use Rattle.std.specs.Prelude.{◌==◌, ◌||◌, if◌then◌else◌}
+use Rattle.std.specs.Prelude.{◌==◌, ◌||◌, ◌≤◌, length, if◌then◌else◌}
+use Rattle.std.specs.Option.{is_some}
 use Rattle.std.specs.List.{AllByRecursion, filter, filter_map, find, list_any}
 use Rattle.std.specs.Map.{keys_of, lookup, set_value, remove_entry}
 use Rattle.std.specs.BTreeMap.{is_at}
 use Rattle.std.specs.Ordering.{nat_cmp}
-use Rattle.ra_ipc.specs.ChannelServers.{Active, Call, waiting_call, handed_call, waiting_listen, listener, holds, is_timed_out}
+use Rattle.ra_ipc.specs.ChannelServers.{Active, Call, waiting_call, handed_call, waiting_listen, listener, holds, is_timed_out, timeout_one}
 use Rattle.ra_chan_server.specs.declared.request.Request.{Request}
 use Rattle.ra_chan_server.specs.Requests.{id_in, is_here, opened, opened_call, marked, at_id, HaveOwnIds, ActiveFits}
 use Rattle.ra_chan_server.specs.View.{active_of}
 use Rattle.ra_chan_server.specs.Held.{Ascending, AreArrivals, AreHeld, without, actives, arrival_of, request_of, here, SetAt}
 use Rattle.ra_chan_server.proofs.Arrivals.{at_is, arrivals_push, arrivals_filter, all_push, all_filter, keys_push, keys_without, entry_goes, all_stay}
+use Rattle.ra_chan_server.proofs.Several.{here_map_is, timeout_here}
 use Rattle.ra_chan_server.proofs.Lists.{filter-map, filter_alike, holds_is, has_id, other_id, own_filter, own_push, own_map, none_changes, keeps_id_at, fits_at, keeps_id_opened, keeps_id_marked, keeps_here_marked, keeps_fit_opened, keeps_fit_marked, handed_out, not_handed_out}
 
 -- ---- one more
@@ -335,3 +337,54 @@ none_shown all ms goal left k ks is found inv = rw (is, found) at inv
 
 pub none_left : (all : List (ℕ × Request)) (ms goal : List Active) (left : List ℕ) → left ≡ [] → ms ++ shown all left ≡ goal → ms ≡ goal
 none_left all ms goal left is inv = sym (append-nil ms) ∙ (rw is at inv)
+
+-- ---- how many waited too long
+
+-- an option holds nothing, or something
+none_or_some : {B : Type 0} (o : Option B) → (o ≡ None) ⊎ ((x : B) × (o ≡ Some x))
+none_or_some None = inl refl
+none_or_some (Some x) = inr (x, refl)
+
+at_most : {A B : Type 0} (h : A → Option B) (xs : List A) → length (filter_map h xs) ≤ length xs
+at_most h [] = omega (arith)
+at_most h (x ∷ xs) = elim (none_or_some (h x)) [
+  | inl none ↦ rw none (omega (arith, at_most h xs))
+  | inr some ↦ rw some.1 (omega (arith, at_most h xs))
+]
+
+shown_late : (now : ℕ) (es : List (ℕ × Request)) → Ascending (keys_of es) → length (filter_map (timeout_one now) (shown es (here es))) ≡ length (filter_map (timeout_one now) (actives es))
+shown_late now es a = ap (λ (xs : List Active). length (filter_map (timeout_one now) xs)) (all_shown es a) ∙ ap length (here_map_is (timeout_one now) (timeout_here now) (actives es))
+
+few_late : (now : ℕ) (es : List (ℕ × Request)) → Ascending (keys_of es) → length (filter_map (timeout_one now) (actives es)) ≤ length (here es)
+few_late now es a =
+    let shown_few : length (shown es (here es)) ≤ length (here es) = at_most (λ k. option_map active_of (lookup (is_at (nat_cmp k)) es)) (here es) in
+    let late_few : length (filter_map (timeout_one now) (shown es (here es))) ≤ length (shown es (here es)) = at_most (timeout_one now) (shown es (here es)) in
+    let few : length (filter_map (timeout_one now) (shown es (here es))) ≤ length (here es) = omega (arith, shown_few, late_few) in
+    rw (shown_late now es a) at few
+
+pub none_counted : (now : ℕ) (es : List (ℕ × Request)) (left : List ℕ) → Ascending (keys_of es) → left ≡ here es → 0 + length (filter_map (timeout_one now) (shown es left)) ≡ length (filter_map (timeout_one now) (actives es))
+none_counted now es left a is = let all : length (filter_map (timeout_one now) (shown es left)) ≡ length (filter_map (timeout_one now) (actives es)) = rw is (shown_late now es a) in omega (arith, all)
+
+pub few_keys : (now : ℕ) (es : List (ℕ × Request)) (keys : List ℕ) → Ascending (keys_of es) → keys ≡ here es → length keys < 2 ^ 63 → length (filter_map (timeout_one now) (actives es)) < 2 ^ 64
+few_keys now es keys a is small = let few = few_late now es a in let bound : length (here es) < 2 ^ 63 = rw is at small in omega (arith, few, bound)
+
+pub one_more_late : (all : List (ℕ × Request)) (now count goal : ℕ) (left : List ℕ) (k : ℕ) (ks : List ℕ) (r : Request) → left ≡ k ∷ ks → lookup (is_at (nat_cmp k)) all ≡ Some r → is_some (timeout_one now (active_of r)) ≡ true
+    → count + length (filter_map (timeout_one now) (shown all left)) ≡ goal → (count + 1) + length (filter_map (timeout_one now) (shown all ks)) ≡ goal
+one_more_late all now count goal left k ks r is found late inv = elim (none_or_some (timeout_one now (active_of r))) [
+  | inl none ↦ absurd (let never : false ≡ true = rw none at late in cc)
+  | inr some ↦ omega (arith, rw (is, found, some.1) at inv)
+]
+
+pub one_not_late : (all : List (ℕ × Request)) (now count goal : ℕ) (left : List ℕ) (k : ℕ) (ks : List ℕ) (r : Request) → left ≡ k ∷ ks → lookup (is_at (nat_cmp k)) all ≡ Some r → is_some (timeout_one now (active_of r)) ≡ false
+    → count + length (filter_map (timeout_one now) (shown all left)) ≡ goal → count + length (filter_map (timeout_one now) (shown all ks)) ≡ goal
+one_not_late all now count goal left k ks r is found late inv = elim (none_or_some (timeout_one now (active_of r))) [
+  | inl none ↦ rw (is, found, none) at inv
+  | inr some ↦ absurd (let never : true ≡ false = rw some.1 at late in cc)
+]
+
+pub none_there : (all : List (ℕ × Request)) (now count goal : ℕ) (left : List ℕ) (k : ℕ) (ks : List ℕ) → left ≡ k ∷ ks → lookup (is_at (nat_cmp k)) all ≡ None
+    → count + length (filter_map (timeout_one now) (shown all left)) ≡ goal → count + length (filter_map (timeout_one now) (shown all ks)) ≡ goal
+none_there all now count goal left k ks is found inv = rw (is, found) at inv
+
+pub all_counted : (all : List (ℕ × Request)) (now count goal : ℕ) (left : List ℕ) → left ≡ [] → count + length (filter_map (timeout_one now) (shown all left)) ≡ goal → count ≡ goal
+all_counted all now count goal left is inv = omega (arith, rw is at inv)

@@ -1,5 +1,8 @@
 //! What a server hands out, and what it is given to fire.
-use ra_values::{Text, Value};
+ghost use Rattle.std.specs.Prelude.{◌≡◌, ◌↔◌, IfOk, IsTrue};
+
+use ra_values::{NoMemory, Text, Value};
+use std::alloc::Global;
 
 /// A call for the application.
 #[derive(Debug, Drop)]
@@ -18,4 +21,26 @@ pub struct Fire {
     pub channel: Text,
     pub event: Text,
     pub body: Value,
+}
+
+impl Fire {
+    /// An equal event.
+    pub fn copy(&self, alloc: Global) -> Result<Fire, NoMemory>
+        ensures { IfOk result (λ f. f ≡ self.now) }
+    {
+        Ok(Fire {
+            channel: Text::of(alloc, self.channel.as_str())?,
+            event: Text::of(alloc, self.event.as_str())?,
+            body: self.body.copy(alloc)?,
+        })
+    }
+
+    /// Whether they are equal.
+    pub fn same(&self, other: &Fire) -> bool
+        ensures { IsTrue result ↔ (self.now ≡ other.now) }
+    {
+        self.channel.as_str() == other.channel.as_str()
+            && self.event.as_str() == other.event.as_str()
+            && self.body.same(&other.body)
+    }
 }

@@ -1,6 +1,7 @@
 //! A request that is active: a call until its answer, a listen until its dispose.
 ghost use Rattle.std.specs.Prelude.{◌≡◌, option_map, IfOk};
-ghost use Rattle.ra_ipc.specs.ChannelServers.{is_timed_out};
+ghost use Rattle.std.specs.Option.{is_some};
+ghost use Rattle.ra_ipc.specs.ChannelServers.{is_timed_out, timeout_one};
 ghost use Rattle.ra_ipc.specs.View.{id_of};
 ghost use Rattle.ra_chan_server.specs.Requests.{id_in, is_here, is_listen, waits_for, opened, opened_call, marked};
 ghost use Rattle.ra_chan_server.specs.View.{active_of, call_of};
@@ -95,6 +96,17 @@ pub fn is_late(request: &Request, now: u64) -> bool
     match request {
         Request::WaitingCall { until, .. } | Request::WaitingListen { until, .. } => *until <= now,
         Request::HandedCall { .. } | Request::Listener { .. } => false,
+    }
+}
+
+/// Whether it is a call that waited for its channel until this moment, or until an earlier one.
+pub fn is_late_call(request: &Request, now: u64) -> bool
+    ensures { result ≡ is_some (timeout_one now (active_of request.now)) }
+{
+    match request {
+        Request::WaitingCall { until, .. } => *until <= now,
+        Request::WaitingListen { .. } | Request::HandedCall { .. } | Request::Listener { .. } =>
+            false,
     }
 }
 

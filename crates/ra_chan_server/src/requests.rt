@@ -1,9 +1,9 @@
 //! The requests that are active, in the order in which they came.
-ghost use Rattle.std.specs.Prelude.{◌≡◌, ◌<◌, ◌^◌, [], ◌++◌, ◌∷◌, false, not, map, option_map, IfOk, OnOk, OnErr};
-ghost use Rattle.std.specs.List.{AllByRecursion, filter, find, list_any};
+ghost use Rattle.std.specs.Prelude.{◌≡◌, ◌<◌, ◌^◌, [], ◌++◌, ◌∷◌, false, length, not, map, option_map, IfOk, OnOk, OnErr};
+ghost use Rattle.std.specs.List.{AllByRecursion, filter, filter_map, find, list_any};
 ghost use Rattle.std.specs.Bool.{OnTrue, OnFalse};
 ghost use Rattle.std.specs.Option.{option_and_then};
-ghost use Rattle.ra_ipc.specs.ChannelServers.{holds, is_handed, is_listener, is_timed_out, cancel_one};
+ghost use Rattle.ra_ipc.specs.ChannelServers.{holds, is_handed, is_listener, is_timed_out, cancel_one, timeout_one};
 ghost use Rattle.ra_chan_server.specs.Requests.{id_in, is_here, opened, opened_call, at_id, HaveOwnIds, ActiveFits};
 ghost use Rattle.ra_chan_server.specs.View.{active_of, call_of};
 
@@ -192,6 +192,13 @@ impl Requests {
         ensures { result ≡ list_any (is_timed_out now) self.now }
     {
         table::has_late(&self.by_arrival, &self.not_handed, now)
+    }
+
+    /// How many calls waited for their channel until this moment, or until an earlier one. It takes no memory.
+    pub fn late_calls(&self, now: u64) -> usize
+        ensures { result ≡ length (filter_map (timeout_one now) self.now) }
+    {
+        table::late_calls(&self.by_arrival, &self.not_handed, now)
     }
 
     /// Equal requests.

@@ -1,5 +1,5 @@
 //! The channel server: what it holds, its copy, and its calls.
-ghost use Rattle.std.specs.Prelude.{◌≡◌, ◌<◌, ◌^◌, [], true, false, Some, None, if◌then◌else◌, map, option_map, IfOk, IfErr, IfSome, OnOk, OnErr};
+ghost use Rattle.std.specs.Prelude.{◌≡◌, ◌<◌, ◌^◌, [], true, false, Some, None, if◌then◌else◌, length, map, option_map, IfOk, IfErr, IfSome, OnOk, OnErr};
 ghost use Rattle.std.specs.List.{AllByRecursion, list_any};
 ghost use Rattle.std.specs.Bool.{OnTrue};
 ghost use Rattle.std.specs.Str.{bytes_eq};
@@ -262,6 +262,13 @@ impl ChannelServer {
         ensures { result ≡ list_any (is_timed_out now) self.now.active }
     {
         self.requests.has_late(now)
+    }
+
+    /// How many answers a tick at this moment would make: one for each call that waited too long. It takes no memory.
+    pub fn late_calls(&self, now: u64) -> usize
+        ensures { result ≡ length (timeout_answers self.now now) }
+    {
+        self.requests.late_calls(now)
     }
 
     /// An EventFire for each listener of this event, in the order of their listens. It needs a body that fits, and is refused for

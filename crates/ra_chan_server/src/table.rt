@@ -1,10 +1,10 @@
 //! The requests by their arrivals, with the arrivals of all by their ids, and of those that were not handed out.
-ghost use Rattle.std.specs.Prelude.{◌≡◌, ◌<◌, ◌+◌, ◌++◌, ◌∷◌, [], ℕ, not, Some, None, map, option_map, IfOk, OnOk, OnErr};
-ghost use Rattle.std.specs.List.{AllByRecursion, filter, list_any};
+ghost use Rattle.std.specs.Prelude.{◌≡◌, ◌<◌, ◌+◌, ◌++◌, ◌∷◌, [], ℕ, not, Some, None, length, map, option_map, IfOk, OnOk, OnErr};
+ghost use Rattle.std.specs.List.{AllByRecursion, filter, filter_map, list_any};
 ghost use Rattle.std.specs.Map.{keys_of, lookup, set_value};
 ghost use Rattle.std.specs.BTreeMap.{is_at};
 ghost use Rattle.std.specs.Ordering.{nat_cmp};
-ghost use Rattle.ra_ipc.specs.ChannelServers.{holds, is_timed_out};
+ghost use Rattle.ra_ipc.specs.ChannelServers.{holds, is_timed_out, timeout_one};
 ghost use Rattle.ra_chan_server.specs.Requests.{id_in, is_here, opened, opened_call, marked, ActiveFits};
 ghost use Rattle.ra_chan_server.specs.View.{active_of, call_of};
 ghost use Rattle.ra_chan_server.specs.Held.{Ascending, AreArrivals, AreHeld, arrival_of, request_of, actives, here, SetAt};
@@ -166,6 +166,23 @@ pub fn has_late(requests: &BTreeMap<u64, Request>, not_handed: &BTreeSet<u64>, n
         }
     }
     false
+}
+
+/// How many calls waited for their channel until this moment, or until an earlier one. It takes no memory.
+pub fn late_calls(requests: &BTreeMap<u64, Request>, not_handed: &BTreeSet<u64>, now: u64) -> usize
+    requires order { Ascending (keys_of requests.now.entries) }
+    requires here { not_handed.now.keys ≡ here requests.now.entries }
+    ensures { result ≡ length (filter_map (timeout_one now) (actives requests.now.entries)) }
+{
+    let mut count = 0;
+    for arrival in not_handed.iter() {
+        if let Some(request) = requests.get(arrival) {
+            if request::is_late_call(request, now) {
+                count += 1;
+            }
+        }
+    }
+    count
 }
 
 /// Equal requests with the same arrivals.
