@@ -1,8 +1,8 @@
 -- Moments that pass at a session, and the session that is left.
 use Rattle.std.proofs.Common.{◌≡◌, ℕ, Bool, true, false, not, Option, Some, None, List, [], ◌∷◌, ◌++◌, refl, ap, sym, ◌∙◌, subst, map, length, ltb, ◌-◌, ◌≤◌, arith, length-append}
-use Rattle.std.proofs.lemmas.Bool.{cond-true, cond-false, cond_both, or_parts, ltb-false}
+use Rattle.std.proofs.lemmas.Bool.{cond-true, cond-false, cond_both, or_parts, ltb-false, true≢false}
 use Rattle.std.proofs.lemmas.Bool.Decides.{nat_tests}
-use Rattle.std.specs.Prelude.{option_map, codes, nat_le, nat_lt}
+use Rattle.std.specs.Prelude.{option_map, codes, nat_le, nat_lt, Result, Ok, Err, IfErr}
 use Rattle.std.specs.List.{AllByRecursion, filter, filter_map, list_any, cons_option}
 use Rattle.std.specs.Option.{is_some}
 use Rattle.ra_base.specs.declared.key.Cause.{Cause}
@@ -24,10 +24,11 @@ use Rattle.ra_ipc.specs.Packets.{message_bytes}
 use Rattle.ra_ipc.specs.ChannelServers.{Active, waiting_call, handed_call, waiting_listen, listener, is_timed_out, timeout_one, ticked, timeout_answers, shown_name, unknown_channel}
 use Rattle.ra_session.specs.Faults.{fault_of}
 use Rattle.ra_session.specs.declared.values.SessionFault.{SessionFault}
+use Rattle.ra_session.specs.declared.values.SessionFault.TheVariants.{NoMemory}
 use Rattle.ra_session.specs.Sessions.{Session}
 use Rattle.ra_session.specs.SessionCalls.{emptied, tick_session, leave_session}
 use Rattle.ra_session.specs.SessionRefusals.{Refusal, ids_spent, if_ended, if_spent, IsRefusal, IsEnd, tick_refusal, leave_refusal}
-use Rattle.ra_session.specs.Moments.{timeout_of, TickRefused}
+use Rattle.ra_session.specs.Moments.{timeout_of, AdmitsTick, TickRefused}
 use Rattle.ra_session.specs.SessionStates.{SessionState, with_past, Sayable, StandsForSession, OfEachSession, SessionBecomes}
 use Rattle.ra_session.proofs.Standing.{Becomes, of_sessions, by_sessions, phase_is, never}
 use Rattle.ra_session.proofs.Refusing.{refused_ended, running, refusal_of, is_refusal, refuses_none, spent_is}
@@ -132,6 +133,32 @@ tick_admits_alone h now none on_time = of_sessions h (λ s. tick_refusal now s �
     cond-false (is_some h.cause) _ _ (none_is h.cause none)
     ∙ ap (λ (ms : List Message). if_spent (length ms) p.endpoint) (none_answered now h.server.active on_time)
     ∙ ap (λ (b : Bool). fault_if b ids_spent) (few_left (last_id - sent p.endpoint)))
+
+-- it is refused exactly where fewer ids are left than there are answers
+pub tick_by_ids : (h : SessionState) (now : ℕ) (lacks : Bool) → h.cause ≡ None → lacks ≡ nat_lt (last_id - h.endpoint.sent) (length (timeout_answers h.server now))
+    → OfEachSession h (λ s. tick_refusal now s ≡ fault_if lacks ids_spent)
+unfolding tick_refusal
+tick_by_ids h now lacks none is = of_sessions h (λ s. tick_refusal now s ≡ fault_if lacks ids_spent) (λ p ms es stands.
+    cond-false (is_some h.cause) _ _ (none_is h.cause none)
+    ∙ ap (λ (n : ℕ). fault_if (ltb (last_id - n) (length (timeout_answers h.server now))) ids_spent) (sym stands.endpoint.sent)
+    ∙ ap (λ (b : Bool). fault_if b ids_spent) (sym is))
+
+pub tick_spent : (h : SessionState) (now : ℕ) (lacks : Bool) → h.cause ≡ None → lacks ≡ nat_lt (last_id - h.endpoint.sent) (length (timeout_answers h.server now)) → lacks ≡ true
+    → OfEachSession h (λ s. tick_refusal now s ≡ Some ids_spent)
+tick_spent h now lacks none is so s stands = tick_by_ids h now lacks none is s stands ∙ ap (λ (b : Bool). fault_if b ids_spent) so
+
+tick_enough : (h : SessionState) (now : ℕ) (lacks : Bool) → h.cause ≡ None → lacks ≡ nat_lt (last_id - h.endpoint.sent) (length (timeout_answers h.server now)) → lacks ≡ false
+    → OfEachSession h (λ s. tick_refusal now s ≡ None)
+tick_enough h now lacks none is so s stands = tick_by_ids h now lacks none is s stands ∙ ap (λ (b : Bool). fault_if b ids_spent) so
+
+pub not_ended : (cause : Option Cause) (ends : Bool) → ends ≡ is_some cause → ends ≡ false → cause ≡ None
+not_ended None ends is so = refl
+not_ended (Some cause) ends is so = absurd (true≢false (sym is ∙ so))
+
+pub short_admits : {X : Type 0} (h : SessionState) (now : ℕ) (lacks : Bool) (r : Result X SessionFault) → h.cause ≡ None → lacks ≡ nat_lt (last_id - h.endpoint.sent) (length (timeout_answers h.server now)) → lacks ≡ false
+    → IfErr r (λ fault. fault ≡ NoMemory → AdmitsTick now h)
+short_admits h now lacks (Ok x) none is so = tt
+short_admits h now lacks (Err fault) none is so = λ short. (none, tick_enough h now lacks none is so)
 
 sent_stays : (now : ℕ) (e : Endpoint) → sent (tick now e) ≡ sent e
 unfolding tick

@@ -8,10 +8,16 @@ use Rattle.ra_model.specs.Endpoints.{Endpoint}
 use Rattle.ra_model.specs.EndpointStates.{EndpointState, StandsFor}
 use Rattle.ra_proto.specs.SayAll.{say_all, say_all_fault}
 use Rattle.ra_session.specs.Sessions.{Session}
+use Rattle.ra_session.specs.SessionRefusals.{tick_refusal}
+use Rattle.ra_session.specs.SessionStates.{SessionState, OfEachSession}
 
 -- whether this tick of the session tells that its peer is silent
 abbrev pub timeout_of : ℕ → Session → Bool
 timeout_of now s = if is_some s.cause then false else times_out now s.peer.endpoint
+
+-- the session has not ended, and ids are left for the answers to the calls that waited too long
+abbrev pub AdmitsTick : ℕ → SessionState → Type 0
+AdmitsTick now h = (h.cause ≡ None) × OfEachSession h (λ s. tick_refusal now s ≡ None)
 
 -- the endpoint after its tick
 abbrev pub TicksTo : EndpointState → EndpointState → ℕ → Type 0

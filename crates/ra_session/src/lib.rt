@@ -3,6 +3,7 @@
 //! Who may attach, and which sessions there are, is not known here.
 #![tactic(auto)]
 
+mod copying;
 mod creating;
 mod fault;
 mod hearing;

@@ -1,15 +1,16 @@
 //! Moments that pass, and the end of a session by its own end.
-ghost use Rattle.std.specs.Prelude.{◌≡◌, false, None, map, IfOk, IfErr, OnOk, OnErr};
+ghost use Rattle.std.specs.Prelude.{◌≡◌, ◌-◌, false, None, length, map, nat_lt, IfOk, IfErr, OnOk, OnErr};
 ghost use Rattle.std.specs.List.{list_any};
 ghost use Rattle.ra_model.specs.Calls.{leave, times_out};
 ghost use Rattle.ra_model.specs.Endpoints.{Endpoint as AbstractEndpoint, shown};
+ghost use Rattle.ra_model.specs.Frames.{last_id};
 ghost use Rattle.ra_model.specs.EndpointStates.{StandsFor};
 ghost use Rattle.ra_proto.specs.Links.{SameLink};
 ghost use Rattle.ra_ipc.specs.Packets.{message_bytes};
 ghost use Rattle.ra_ipc.specs.ChannelServers.{is_timed_out, ticked, timeout_answers};
 ghost use Rattle.ra_session.specs.SessionCalls as calls;
 ghost use Rattle.ra_session.specs.SessionRefusals.{Refuses, tick_refusal, leave_refusal};
-ghost use Rattle.ra_session.specs.Moments.{timeout_of, IsTicked, TickRefused};
+ghost use Rattle.ra_session.specs.Moments.{timeout_of, AdmitsTick, IsTicked, TickRefused};
 ghost use Rattle.ra_session.specs.SessionStates.{OfEachSession, SessionBecomes};
 
 use crate::packets::bodies_of;
@@ -57,10 +58,19 @@ fn ticked_endpoint(
 }
 
 impl Session {
+    /// Whether fewer ids are left than there are calls that waited too long. It takes no memory.
+    fn lacks_ids(&self, now: Moment) -> bool
+        ensures { result ≡ nat_lt (last_id - self.now.endpoint.sent) (length (timeout_answers self.now.server now)) }
+    {
+        let left = u64::MAX - self.endpoint.marks().sent;
+        left < self.server.late_calls(now.millis()) as u64
+    }
+
     /// The alarms of the endpoint, where no call waited too long.
     fn tick_endpoint(&mut self, now: Moment) -> Result<Ticked, SessionFault>
         requires going { self.old.cause ≡ None }
         requires none { list_any (is_timed_out now) self.old.server.active ≡ false }
+        ensures admitted { OfEachSession self.old (λ s. tick_refusal now s ≡ None) }
         ensures timeout { IfOk result (λ ticked. OfEachSession self.old (λ s. ticked.timed_out ≡ timeout_of now s)) }
         ensures stands { OnOk result (SessionBecomes self.old self.new (calls.tick_session now)) }
         ensures refused { OfEachSession self.old (λ s. Refuses result (tick_refusal now s)) }
@@ -88,11 +98,13 @@ impl Session {
     }
 
     /// A moment comes: the alarms of the endpoint that are due are served, and then the calls that waited too long for their channel
-    /// are answered. Nothing is done where the session has ended. Answers whether the peer is silent for too long.
+    /// are answered. Nothing is done where the session has ended. Answers whether the peer is silent for too long. Memory may run
+    /// out only where the session has not ended and ids are left for the answers.
     pub fn tick(&mut self, alloc: Global, now: Moment) -> Result<Ticked, SessionFault>
         ensures timeout { IfOk result (λ ticked. OfEachSession self.old (λ s. ticked.timed_out ≡ timeout_of now s)) }
         ensures stands { OnOk result (SessionBecomes self.old self.new (calls.tick_session now)) }
         ensures refused { OfEachSession self.old (λ s. Refuses result (tick_refusal now s)) }
+        ensures short { IfErr result (λ fault. fault ≡ SessionFault.NoMemory → AdmitsTick now self.old) }
         ensures same { OnErr result (self.new ≡ self.old) }
     {
         if self.cause.is_some() {
@@ -100,6 +112,9 @@ impl Session {
         }
         if !self.server.has_late(now.millis()) {
             return self.tick_endpoint(now);
+        }
+        if self.lacks_ids(now) {
+            return Err(SessionFault::IdsSpent);
         }
         self.tick_calls(alloc, now)
     }

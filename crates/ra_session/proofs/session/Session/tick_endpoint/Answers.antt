@@ -17,3 +17,15 @@ returns-clause-refused c =
     let going = rw (← c.self.view_is) at c.requires.going in
     let none = rw (← c.self.view_is) at c.requires.none in
     rw (← c.self.view_is) (tick_admits_alone _ c.args.now going none)
+
+pub returns-in_err-ticked-clause-admitted : goal.returns-in_err-ticked-clause-admitted
+returns-in_err-ticked-clause-admitted c =
+    let going = rw (← c.self.view_is) at c.requires.going in
+    let none = rw (← c.self.view_is) at c.requires.none in
+    rw (← c.self.view_is) (tick_admits_alone _ c.args.now going none)
+
+pub returns-clause-admitted : goal.returns-clause-admitted
+returns-clause-admitted c =
+    let going = rw (← c.self.view_is) at c.requires.going in
+    let none = rw (← c.self.view_is) at c.requires.none in
+    rw (← c.self.view_is) (tick_admits_alone _ c.args.now going none)
