@@ -11,6 +11,7 @@ use Rattle.ra_session.specs.SessionStates.{SessionState, StandsForSession, OfEac
 use Rattle.ra_session.specs.declared.values.SessionFault.{SessionFault}
 use Rattle.ra_session.specs.declared.values.SessionFault.TheVariants as faults
 use Rattle.ra_hub.specs.Faults.{is_no_memory}
+use Rattle.ra_session.specs.Moments.{AdmitsTick}
 use Rattle.ra_hub.specs.Standing.{AtSession, Sets, Called, Ticked}
 use Rattle.ra_hub.specs.Sweeps.{tick_one}
 
@@ -69,13 +70,25 @@ pub ticks : (now : ℕ) (x y : SessionState) → SessionBecomes x y (tick_sessio
 ticks now x y becomes none s stands =
     subst (λ (r : Option Refusal). StandsForSession y (cond (is_some r) s (tick_session now s))) (sym (none s stands)) (becomes s stands)
 
+memory_is : (fault : SessionFault) → is_no_memory fault ≡ true → fault ≡ faults.NoMemory
+memory_is (faults.Ended cause) is = cc
+memory_is (faults.Stale current) is = cc
+memory_is faults.NoLink is = cc
+memory_is (faults.TooLong stated) is = cc
+memory_is (faults.BadIpc fault message) is = cc
+memory_is (faults.TooLarge len) is = cc
+memory_is faults.IdsSpent is = cc
+memory_is (faults.NoSuchCall id) is = cc
+memory_is faults.WrongKind is = cc
+memory_is faults.NoMemory is = refl
+
 -- a session whose tick was refused
 pub stays : (now : ℕ) (x y : SessionState) (fault : SessionFault) → y ≡ x → OfEachSession x (λ (s : Session). IsRefusal fault (tick_refusal now s))
-    → Ticked now (not (is_no_memory fault)) x y
-stays now x y fault same refused = here (is_no_memory fault) refl
+    → (fault ≡ faults.NoMemory → AdmitsTick now x) → Ticked now (not (is_no_memory fault)) x y
+stays now x y fault same refused short = here (is_no_memory fault) refl
   where
     here : (b : Bool) → is_no_memory fault ≡ b → Ticked now (not b) x y
-    here true found = same
+    here true found = (same, short (memory_is fault found))
     here false found = λ s stands.
         subst (λ (b : Bool). StandsForSession y (cond b s (tick_session now s))) (sym (tick_refused (tick_refusal now s) fault (refused s stands) found))
         (subst (λ (z : SessionState). StandsForSession z s) (sym same) stands)

@@ -15,15 +15,15 @@ use Rattle.ra_base.specs.declared.key.Key.{Key}
 use Rattle.ra_registry.specs.declared.past.Past.{Past}
 use Rattle.ra_registry.specs.Rows.{same_key}
 use Rattle.ra_registry.specs.TableChanges.{has_key}
-use Rattle.ra_registry.proofs.SameKeys.{same_key_itself, same_key_other_way}
+use Rattle.ra_registry.proofs.SameKeys.{same_key_is, same_key_itself, same_key_other_way}
 use Rattle.ra_session.specs.Sessions.{Session}
 use Rattle.ra_session.specs.SessionCalls.{end_session}
 use Rattle.ra_session.specs.SessionStates.{SessionState, StandsForSession, SessionBecomes}
 use Rattle.ra_hub.specs.HubSeats.{one_if}
-use Rattle.ra_hub.specs.Standing.{AtSession, BothStand, Ticked}
-use Rattle.ra_hub.specs.Sweeping.{ended_if, ended_in, EndsAll, reached, ticked_in, TicksAll}
+use Rattle.ra_hub.specs.Standing.{AtSession, BothStand, SessionsStand, Ticked}
+use Rattle.ra_hub.specs.Sweeping.{ended_if, ended_in, EndsAll, reached, ticked_in, IsAdmitted, TicksAll}
 use Rattle.ra_hub.specs.Sweeps.{AreDistinct}
-use Rattle.ra_hub.proofs.SessionMaps.{stand_at}
+use Rattle.ra_hub.proofs.SessionMaps.{in_memory, stand_at}
 
 -- ---- ends
 
@@ -171,7 +171,28 @@ ticked_there : (ticked : Bool) (now : ℕ) (p : Option Session) (x y : SessionSt
 ticked_there ticked now None x y s is to holds = cc
 ticked_there true now (Some q) x y s is to holds = holds q (subst (λ (t : Session). StandsForSession x t) (sym (is_that q s is)) to)
 ticked_there false now (Some q) x y s is to holds =
-    subst (λ (z : SessionState). StandsForSession z q) (sym holds) (subst (λ (t : Session). StandsForSession x t) (sym (is_that q s is)) to)
+    subst (λ (z : SessionState). StandsForSession z q) (sym holds.0) (subst (λ (t : Session). StandsForSession x t) (sym (is_that q s is)) to)
+
+-- a session that is left is one whose tick is not refused
+left_admits : (ticked : Bool) (now : ℕ) (between after : BTreeMap Key SessionState) (key : Key) (g : Key → Option Session) → not ticked ≡ true
+    → AtSession between after key (Ticked now ticked) → SessionsStand between g → IsAdmitted now (g key)
+left_admits true now between after key g left one stand = cc
+left_admits false now between after key g left one stand = at (g key) refl
+  where
+    at : (p : Option Session) → g key ≡ p → IsAdmitted now p
+    at None is = tt
+    at (Some s) is =
+        let x = in_memory between g key s stand is in
+        let called = one.there x.0 x.1 in
+        called.2.1.1 s x.2
+
+and_left : (a b : Bool) → (a && b) ≡ true → a ≡ true
+and_left true b e = refl
+and_left false b e = cc
+
+nothing_done : (now : ℕ) (p : Option Session) → option_map (reached false false now) p ≡ p
+nothing_done now None = refl
+nothing_done now (Some s) = refl
 
 pub ticks_more : (keys : List Key) (i now short : ℕ) (key : Key) (ticked : Bool) (old between after : BTreeMap Key SessionState)
     → AreDistinct keys → i < length keys → key ≡ get_or keys i key → TicksAll (take i keys) now short old between
@@ -182,6 +203,7 @@ ticks_more keys i now short key ticked old between after distinct small is so_fa
       counted = sym (left_length ticked so_far.left key ∙ ap (λ (n : ℕ). n + one_if (not ticked)) (sym so_far.counted));
       once = left_once ticked so_far.left key so_far.once not_left;
       among = λ other there. grown other (or_of (list_any (same_key other) so_far.left) (not ticked && same_key other key) (sym (left_any ticked so_far.left key other) ∙ there));
+      admitted = λ f stand other there. admits f stand other (or_of (list_any (same_key other) so_far.left) (not ticked && same_key other key) (sym (left_any ticked so_far.left key other) ∙ there));
       sessions = λ f stand.
           stand_at between after key _ (ticked_in (take i keys) so_far.left now f) (ticked_in (take (i + 1) keys) (left_after ticked so_far.left key) now f) one (so_far.sessions f stand)
           (λ x y s at to holds.
@@ -215,6 +237,13 @@ ticks_more keys i now short key ticked old between after distinct small is so_fa
     was : (f : Key → Option Session) → ticked_in (take i keys) so_far.left now f key ≡ option_map (reached false false now) (f key)
     was f = ap (λ (b : Bool). option_map (reached b (list_any (same_key key) so_far.left) now) (f key)) fresh ∙ ap (λ (b : Bool). option_map (reached false b now) (f key)) not_left
 
+    admits : (f : Key → Option Session) → SessionsStand old f → (other : Key) → (list_any (same_key other) so_far.left ≡ true) ⊎ ((not ticked && same_key other key) ≡ true) → IsAdmitted now (f other)
+    admits f stand other (inl there) = so_far.admitted f stand other there
+    admits f stand other (inr new) =
+        subst (λ (k : Key). IsAdmitted now (f k)) (sym (same_key_is other key (and_second (not ticked) (same_key other key) new)))
+        (subst (λ (p : Option Session). IsAdmitted now p) (was f ∙ nothing_done now (f key))
+        (left_admits ticked now between after key (ticked_in (take i keys) so_far.left now f) (and_left (not ticked) (same_key other key) new) one (so_far.sessions f stand)))
+
     grown : (other : Key) → (list_any (same_key other) so_far.left ≡ true) ⊎ ((not ticked && same_key other key) ≡ true) → list_any (same_key other) (take (i + 1) keys) ≡ true
     grown other (inl there) = come_more keys i key other small is ∙ or_first (list_any (same_key other) (take i keys)) (same_key other key) (so_far.among other there)
     grown other (inr new) = come_more keys i key other small is ∙ or_second (list_any (same_key other) (take i keys)) (same_key other key) (and_second (not ticked) (same_key other key) new)
@@ -225,12 +254,16 @@ ticks_none now old = record {
   counted = refl;
   once = λ i d small. none_there i small;
   among = λ key there. there;
+  admitted = λ f stand key there. none_so key there;
   sessions = λ f stand key. subst (λ (p : Option Session). BothStand (get key_cmp old key) p) (sym (unchanged (f key))) (stand key);
 }
   where
     unchanged : (p : Option Session) → option_map (reached false false now) p ≡ p
     unchanged None = refl
     unchanged (Some s) = refl
+
+    none_so : {T : Type 0} (key : Key) → false ≡ true → T
+    none_so key there = cc
 
     none_there : {T : Type 0} (i : ℕ) → i < 0 → T
     none_there i small = absurd (omega (arith, small))

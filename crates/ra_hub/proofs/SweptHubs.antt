@@ -24,7 +24,7 @@ use Rattle.ra_session.specs.SessionRefusals.{tick_refusal}
 use Rattle.ra_session.specs.SessionStates.{SessionState}
 use Rattle.ra_hub.specs.Hubs.{Hub}
 use Rattle.ra_hub.specs.Standing.{AreKeys, BothStand, SessionsStand, StandsForHub}
-use Rattle.ra_hub.specs.Sweeping.{ended_if, ended_in, EndsAll, is_going, going_keys, reached, ticked_in, TicksAll}
+use Rattle.ra_hub.specs.Sweeping.{ended_if, ended_in, EndsAll, is_going, going_keys, reached, ticked_in, IsAdmitted, TicksAll}
 use Rattle.ra_hub.specs.Sweeps.{AreDistinct, IsSwept, MayBeLeft, grace_is_over, swept, tick_one}
 use Rattle.ra_hub.proofs.AdmittedRows.{admissions_stay}
 use Rattle.ra_hub.proofs.Endings.{ended_back, reached_back}
@@ -98,12 +98,13 @@ ended_some None some none = cc
 ended_some (Some cause) some none = cc
 
 -- a session in memory that goes on
-may_leave : (o : Option SessionState) (over : Bool) (p : Option Session) → BothStand o (option_map (ended_if over) p) → is_going o ≡ true → MayBeLeft over p
-may_leave None over p both going = cc
-may_leave (Some x) over None both going = absurd both
-may_leave (Some x) true (Some s) both going =
+may_leave : (now : ℕ) (o : Option SessionState) (over : Bool) (p : Option Session) → BothStand o (option_map (ended_if over) p) → is_going o ≡ true
+    → IsAdmitted now (option_map (ended_if over) p) → MayBeLeft now over p
+may_leave now None over p both going admitted = cc
+may_leave now (Some x) over None both going admitted = absurd both
+may_leave now (Some x) true (Some s) both going admitted =
     absurd (ended_some (end_session GraceOver s).cause (over_is_some s) (state_cause x (end_session GraceOver s) both ∙ cause_none x.cause going))
-may_leave (Some x) false (Some s) both going = (refl, state_cause x s both ∙ cause_none x.cause going)
+may_leave now (Some x) false (Some s) both going admitted = (refl, state_cause x s both ∙ cause_none x.cause going, admitted)
 
 some_map : (g : Session → Session) (p : Option Session) → is_some (option_map g p) ≡ is_some p
 some_map g None = refl
@@ -124,8 +125,8 @@ sweeps registry after old between new keys kept h now expired short stands rows 
     counted = done.counted;
     once = done.once;
     there = λ key left.
-        subst (λ (b : Bool). MayBeLeft b (h.session key)) (over key)
-        (may_leave (get key_cmp between key) (has_key behind key) (h.session key) (ended key) (goes key (done.among key left)));
+        subst (λ (b : Bool). MayBeLeft now b (h.session key)) (over key)
+        (may_leave now (get key_cmp between key) (has_key behind key) (h.session key) (ended key) (goes key (done.among key left)) (done.admitted (ended_in behind h.session) ended key left));
     sessions = λ key. refl;
   },
 )

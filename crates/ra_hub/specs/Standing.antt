@@ -11,6 +11,7 @@ use Rattle.ra_registry.specs.Seats.{admissions_of}
 use Rattle.ra_session.specs.Sessions.{Session}
 use Rattle.ra_session.specs.declared.values.SessionFault.{SessionFault}
 use Rattle.ra_session.specs.declared.values.Turn.{Turn}
+use Rattle.ra_session.specs.Moments.{AdmitsTick}
 use Rattle.ra_session.specs.Saying.{serving}
 use Rattle.ra_session.specs.SessionRefusals.{Refusal, IsRefusal, Refuses}
 use Rattle.ra_session.specs.SessionStates.{SessionState, StandsForSession, OfEachSession, SessionBecomes}
@@ -68,10 +69,10 @@ pub record Turned (epoch : ℕ) (piece : List ℕ) (now : ℕ) (result : Result 
   pub answered : IfOk result (λ t. OfEachSession x (λ s. turn_of t ≡ turn_answer epoch piece now s))
   pub refused : OfEachSession x (λ s. Refuses result (turn_refusal epoch piece now s))
 
--- what a tick ensures, where memory was found, and where not
+-- what a tick ensures, where memory was found, and where not: then it is not refused otherwise
 abbrev pub Ticked : ℕ → Bool → SessionState → SessionState → Type 0
 Ticked now true x y = SessionBecomes x y (tick_one now)
-Ticked now false x y = y ≡ x
+Ticked now false x y = (y ≡ x) × AdmitsTick now x
 
 -- ---- sessions that come and go
 

@@ -11,6 +11,7 @@ use Rattle.ra_registry.specs.Rows.{same_key}
 use Rattle.ra_registry.specs.TableChanges.{has_key}
 use Rattle.ra_session.specs.Sessions.{Session}
 use Rattle.ra_session.specs.SessionCalls.{end_session}
+use Rattle.ra_session.specs.SessionRefusals.{tick_refusal}
 use Rattle.ra_session.specs.SessionStates.{SessionState}
 use Rattle.ra_hub.specs.Standing.{SessionsStand}
 use Rattle.ra_hub.specs.Sweeps.{AreDistinct, tick_one}
@@ -42,10 +43,16 @@ reached come left now s = if come then (if left then s else tick_one now s) else
 abbrev pub ticked_in : List Key → List Key → ℕ → (Key → Option Session) → Key → Option Session
 ticked_in keys left now f key = option_map (reached (list_any (same_key key) keys) (list_any (same_key key) left) now) (f key)
 
+-- its tick is not refused, if there is one
+abbrev pub IsAdmitted : ℕ → Option Session → Type 0
+IsAdmitted now None = Unit {0}
+IsAdmitted now (Some s) = tick_refusal now s ≡ None
+
 -- the sessions of these keys have seen the moment, but for those in `left`
 pub record TicksAll (keys : List Key) (now short : ℕ) (old new : BTreeMap Key SessionState) : Type 0 where
   pub left : List Key
   pub counted : short ≡ length left
   pub once : AreDistinct left
   pub among : (key : Key) → list_any (same_key key) left ≡ true → list_any (same_key key) keys ≡ true
+  pub admitted : (f : Key → Option Session) → SessionsStand old f → (key : Key) → list_any (same_key key) left ≡ true → IsAdmitted now (f key)
   pub sessions : (f : Key → Option Session) → SessionsStand old f → SessionsStand new (ticked_in keys left now f)

@@ -27,10 +27,10 @@ grace_is_over h now key = is_over h.registry (row h key) now
 abbrev pub AreDistinct : List Key → Type 0
 AreDistinct keys = (i : ℕ) (d : Key) → i < length keys → list_any (same_key (slice_index_or keys i d)) (take i keys) ≡ false
 
--- a session that may be left: it is there, its grace is not over, and it has not ended
-abbrev pub MayBeLeft : Bool → Option Session → Type 0
-MayBeLeft over None = ⊥
-MayBeLeft over (Some s) = (over ≡ false) × (s.cause ≡ None)
+-- a session that may be left: it is there, its grace is not over, it has not ended, and ids are left for its answers
+abbrev pub MayBeLeft : ℕ → Bool → Option Session → Type 0
+MayBeLeft now over None = ⊥
+MayBeLeft now over (Some s) = (over ≡ false) × (s.cause ≡ None) × (tick_refusal now s ≡ None)
 
 -- The sessions of the keys in `left` found no memory; each may be left, and is counted once. Every session becomes what its own row, its
 -- own state and the moment say.
@@ -39,5 +39,5 @@ pub record IsSwept (before : Hub) (now expired short : ℕ) (after : Hub) : Type
   pub left : List Key
   pub counted : short ≡ length left
   pub once : AreDistinct left
-  pub there : (key : Key) → list_any (same_key key) left ≡ true → MayBeLeft (grace_is_over before now key) (before.session key)
+  pub there : (key : Key) → list_any (same_key key) left ≡ true → MayBeLeft now (grace_is_over before now key) (before.session key)
   pub sessions : (key : Key) → after.session key ≡ option_map (swept (grace_is_over before now key) (list_any (same_key key) left) now) (before.session key)

@@ -20,7 +20,7 @@ use std::alloc::Global;
 pub struct Swept {
     /// How many rows expired.
     pub expired: u64,
-    /// How many sessions found no memory, and are as before.
+    /// How many sessions found no memory, and are as before. None of them has ended or lacks ids for its answers.
     pub short: u64,
 }
 
