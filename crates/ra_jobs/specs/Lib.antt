@@ -1,0 +1,4 @@
+pub mod Names
+pub mod Logs
+pub mod Seats
+pub mod Orders
