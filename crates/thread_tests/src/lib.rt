@@ -1,0 +1,7 @@
+//! Tests of what threads share, where no contract says what it does.
+#![tactic(auto)]
+
+#[cfg(test)]
+mod queues;
+#[cfg(test)]
+mod stops;
