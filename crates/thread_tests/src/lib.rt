@@ -2,6 +2,10 @@
 #![tactic(auto)]
 
 #[cfg(test)]
+mod jobs;
+#[cfg(test)]
 mod queues;
 #[cfg(test)]
 mod stops;
+#[cfg(test)]
+mod two_threads;

@@ -1,36 +1,13 @@
 //! The queue of jobs: full and empty, what is left, seats that are not back, a sink.
 ghost use Rattle.std.specs.Prelude.{◌≡◌};
 
-use ra_base::{Key, Kind, Message, Token};
-use ra_hub::{Job, JobSink};
+use crate::jobs::{byte_of, job};
+use ra_hub::JobSink;
 use ra_jobs::{Gate, JobQueue, JobSeat, JobsFault, OpenGate, Opened, QueueJobs, QueueName};
-use ra_session::Work;
 use std::alloc::Global;
 use std::marker::Brand;
 use std::sync::Wait;
 use std::test::Fail;
-
-/// A job of an extension host's session whose body is this byte.
-fn job(alloc: Global, byte: u8) -> Option<Job> {
-    let Ok(token) = Token::from_text("t") else {
-        return None;
-    };
-    let Ok(body) = Message::copy(alloc, &[byte]) else {
-        return None;
-    };
-    let kind = Kind::ExtensionHost;
-    let key = Key { kind, token };
-    let work = Work::Host { body };
-    Some(Job { key, work })
-}
-
-/// The byte of such a job, or 0.
-fn byte_of(job: &Job) -> u8 {
-    match &job.work {
-        Work::Host { body } => body.as_slice().first().copied().unwrap_or(0),
-        Work::Call { .. } => 0,
-    }
-}
 
 /// Whether a job of this byte was put.
 fn puts<R: Wait, B: QueueName>(
