@@ -128,8 +128,9 @@ for (page, crate, call), names in named.items():
 
 missing += [f"docs/INDEX.md: no row names {edit}" for edit in sorted(EDITS - tried)]
 
-if subprocess.run(["docs/reading.py"], capture_output=True, text=True).stdout != open("docs/READING.md").read():
-    missing.append("docs/READING.md: not what docs/reading.py prints")
+for made, by in (("docs/READING.md", "docs/reading.py"), ("docs/CALLING.md", "docs/calling.py")):
+    if subprocess.run([by], capture_output=True, text=True).stdout != open(made).read():
+        missing.append(f"{made}: not what {by} prints")
 
 # ---- each crate has its place
 headings = set(re.findall(r"\w+", " ".join(re.findall(r"(?m)^#+ (.*)", open("docs/PROVED.md").read()))))
