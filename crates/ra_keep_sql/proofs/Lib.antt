@@ -1,0 +1,2 @@
+mod StatementLemmas
+mod RefusalLemmas
