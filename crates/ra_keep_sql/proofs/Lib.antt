@@ -1,2 +1,7 @@
-mod StatementLemmas
-mod RefusalLemmas
+pub mod RowLemmas
+pub mod StatementLemmas
+pub mod RefusalLemmas
+pub mod CallLemmas
+pub mod KeeperLemmas
+pub mod ReadLemmas
+pub mod MadeLemmas

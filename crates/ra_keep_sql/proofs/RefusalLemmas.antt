@@ -34,6 +34,7 @@ use Rattle.sqlite.specs.Tree.{Trees, rowid, put_row}
 use Rattle.sqlite_rules.specs.declared.error.Refusal.{Refusal}
 use Rattle.sqlite_rules.specs.declared.error.Refusal.TheVariants.{Violates, Mismatch, NoRowid, BadReference, TooDeep}
 use Rattle.sqlite_schema.specs.declared.schema.Constraint.TheVariants.{Datatype, NotNull, Check, PrimaryKey, Unique, ForeignKey}
+use Rattle.ra_keep_sql.proofs.RowLemmas.{below_is}
 use Rattle.ra_keep_sql.proofs.StatementLemmas.{terms, insert_command, cast_int, cast_null}
 
 pub nothing : Unit {0}
@@ -44,7 +45,7 @@ edit_for db n r = record { table = kept_table; gone = []; news = stored n r ∷ 
 
 untaken : (rows : List Row) (n : ℕ) (r : Record) → Below n rows → is_taken rows (stored n r) ≡ false
 untaken [] n r below = refl
-untaken (row ∷ rows) n r below = rw below.0 (untaken rows n r below.1)
+untaken (row ∷ rows) n r below = rw (below.0.1, below_is below.0.0 n below.0.2) (untaken rows n r below.1)
 
 keeps_each : (rows : List Row) → Rattle.std.specs.List.AllByRecursion (λ row. ◌≡◌ {A = Bool} true true) rows
 keeps_each [] = tt

@@ -22,6 +22,7 @@ use Rattle.sqlite.specs.State.{State, mode_of}
 use Rattle.sqlite.specs.Term.{Term, lit, col}
 use Rattle.sqlite.specs.Tree.{Trees, rowid, put_row}
 use Rattle.sqlite.proofs.Callers.{IsPlain, command_of, statement_of, one_step}
+use Rattle.ra_keep_sql.proofs.RowLemmas.{below_is}
 use Rattle.sqlite_tied.specs.Compute.{everything}
 
 -- a part that gave a value did not stop on the way
@@ -58,7 +59,7 @@ cast_null = either _ Null
 
 put_last : (new : Row) (rows : List Row) (n : ℕ) → rowid new ≡ Int (pos n) → Below n rows → put_row new rows ≡ rows ++ new ∷ []
 put_last new [] n id below = refl
-put_last new (r ∷ rows) n id below = rw (id, below.0) (ap (λ l. r ∷ l) (put_last new rows n id below.1))
+put_last new (r ∷ rows) n id below = rw (id, below.0.1, below_is below.0.0 n below.0.2) (ap (λ l. r ∷ l) (put_last new rows n id below.1))
 
 abbrev pub insert_command : Rattle.sqlite.specs.Command.Command
 insert_command = Insert 0 (Values terms 6)

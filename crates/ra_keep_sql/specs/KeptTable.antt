@@ -1,13 +1,12 @@
 -- The table of kept records, and the three statements on it.
-use Rattle.std.specs.Prelude.{◌≡◌, true, false, [], ◌∷◌, Some, codes, List, ℕ, pos}
-use Rattle.std.specs.declared.cmp.Ordering.TheVariants.{Less}
+use Rattle.std.specs.Prelude.{◌≡◌, ◌<◌, true, false, [], ◌∷◌, Some, codes, List, ℕ, pos}
 use Rattle.ra_base.specs.declared.kind.Kind.{Kind}
 use Rattle.ra_base.specs.declared.kind.Kind.TheVariants.{Management, ExtensionHost, Tunnel}
 use Rattle.ra_keep.specs.declared.record.Record.{Record}
 use Rattle.sqlite.specs.Collation.TheVariants.{Binary}
 use Rattle.sqlite.specs.declared.types.Value.TheVariants.{Null, Int, Text as Words}
 use Rattle.sqlite.specs.Kind.TheVariants.{Integer, Text}
-use Rattle.sqlite.specs.Order.{Row, value_cmp}
+use Rattle.sqlite.specs.Order.{Row}
 use Rattle.sqlite.specs.Schema.{Schema}
 use Rattle.sqlite.specs.Table.{Table}
 use Rattle.sqlite.specs.Tree.{rowid}
@@ -59,10 +58,10 @@ stored n kept = Int (pos n) ∷ Null ∷ Int (pos (kind_number kept.key.kind)) �
 abbrev pub inserted : ℕ → Record → Row
 inserted n kept = Int (pos n) ∷ Int (pos (kind_number kept.key.kind)) ∷ Words kept.key.token ∷ Int (pos kept.epoch) ∷ Int (pos kept.at) ∷ []
 
--- each rowid is less than n
+-- each rowid is a number below n
 abbrev pub Below : ℕ → List Row → Type 0
 Below n [] = Unit {0}
-Below n (row ∷ rows) = (value_cmp (rowid row) (Int (pos n)) ≡ Less) × Below n rows
+Below n (row ∷ rows) = ((id : ℕ) × (rowid row ≡ Int (pos id)) × (id < n)) × Below n rows
 
 abbrev pub create_text : List ℕ
 create_text = codes "CREATE TABLE IF NOT EXISTS kept (n INTEGER PRIMARY KEY, kind INTEGER NOT NULL, token TEXT NOT NULL, epoch INTEGER NOT NULL, moment INTEGER NOT NULL) STRICT"
