@@ -5,3 +5,6 @@ pub mod CallLemmas
 pub mod KeeperLemmas
 pub mod ReadLemmas
 pub mod MadeLemmas
+pub mod OpenLemmas
+pub mod AddLemmas
+pub mod OpeningLemmas

@@ -13,13 +13,16 @@ use Rattle.ra_base.specs.declared.kind.Kind.{Kind}
 use Rattle.ra_base.specs.declared.kind.Kind.TheVariants.{Management, ExtensionHost, Tunnel}
 use Rattle.ra_base.specs.TokenGrammar.{IsToken, token_of, is_visible, unless_bad}
 use Rattle.ra_base.proofs.TokenLemmas.{token_of-IsToken, AllPass-from_position}
+use Rattle.std.specs.Prelude.{All}
+use Rattle.std.proofs.lemmas.List.Elements.{All-nil, All-cons}
+use Rattle.ra_keep.specs.Causes.{IsOfNoTunnel}
 use Rattle.ra_keep.specs.declared.record.Record.{Record}
 use Rattle.sqlite.specs.declared.types.Value.{Value}
 use Rattle.sqlite.specs.declared.types.Value.TheVariants.{Null, Int, Real, Text as Words, Blob}
 use Rattle.sqlite.specs.Order.{Row, value_cmp, column}
 use Rattle.std.specs.declared.cmp.Ordering.TheVariants.{Less}
 use Rattle.ra_keep_sql.specs.KeptTable.{kind_number, stored, Below}
-use Rattle.ra_keep_sql.specs.KeptRows.{kind_numbered, number_in, and_then, record_in, with_first, records_from, records_of, bad_from, first_bad, shown_row, ok_of, token_in}
+use Rattle.ra_keep_sql.specs.KeptRows.{kind_numbered, kind_in, moment_in, number_in, and_then, record_in, with_first, records_from, records_of, bad_from, first_bad, shown_row, ok_of, token_in}
 
 kind_known : (k : Kind) → k ≢ Tunnel → kind_numbered (kind_number k) ≡ Some k
 kind_known Management h = refl
@@ -148,3 +151,44 @@ either_fault false false n r h = h
 -- what is no text is no token
 pub not_token : (t : List ℕ) (v : Value) → v ≡ Words t → ¬ IsUtf8 t → token_in v ≡ None
 not_token t v is not_text = rw is (either_fault _ _ (length t) (unless_bad t (position (λ b. not (is_visible b)) t)) (no_text t _ refl not_text))
+
+and_then_some : {A B : Type 0} (f : A → Option B) (o : Option A) (b : B) → and_then f o ≡ Some b → (a : A) × (o ≡ Some a) × (f a ≡ Some b)
+and_then_some f (Some a) b h = (a, refl, h)
+and_then_some f None b h = absurd (let e = h in cc)
+
+if_some : (b : Bool) (o : Option Record) (r : Record) → cond b o None ≡ Some r → o ≡ Some r
+if_some true o r h = h
+if_some false o r h = absurd (let e = h in cc)
+
+untunnelled : (n : ℕ) (k : Kind) → kind_numbered n ≡ Some k → k ≢ Tunnel
+untunnelled n k h = grind (arith, common_steps)
+
+kind_is : (kind : Kind) (token : Option (List ℕ)) (epoch at : Option ℕ) (r : Record)
+    → and_then (λ token. and_then (λ epoch. and_then (λ at. Some (record { key = record { kind = kind; token = token }; epoch = epoch; at = at })) at) epoch) token ≡ Some r → kind ≡ r.key.kind
+kind_is kind (Some token) (Some epoch) (Some at) r h =
+    let same : record { key = record { kind = kind; token = token }; epoch = epoch; at = at } ≡ r = let e = h in cc in ap (λ (x : Record). x.key.kind) same
+kind_is kind (Some token) (Some epoch) None r h = absurd (let e = h in cc)
+kind_is kind (Some token) None at r h = absurd (let e = h in cc)
+kind_is kind None epoch at r h = absurd (let e = h in cc)
+
+kind_kept : (n : ℕ) (row : Row) (r : Record) → record_in n row ≡ Some r → r.key.kind ≢ Tunnel
+kind_kept n row r h =
+    let number = and_then_some _ (number_in (column row 0)) r h in
+    let read = if_some (eqb number.0 n) _ r number.2 in
+    let kind = and_then_some _ (kind_in (column row 1)) r read in
+    let known = and_then_some kind_numbered (number_in (column row 1)) kind.0 kind.1 in
+    subst (λ k. k ≢ Tunnel) (kind_is kind.0 (token_in (column row 2)) (number_in (column row 3)) (moment_in (column row 4)) r kind.2) (untunnelled known.0 kind.0 known.2)
+
+-- no record that is read is of a tunnel
+pub kinds_kept : (n : ℕ) (rows : List Row) (list : List Record) → records_from n rows ≡ Some list → All IsOfNoTunnel list
+kinds_kept n [] list h = let e = h in subst (All IsOfNoTunnel) (let none : [] ≡ list = cc in none) (All-nil IsOfNoTunnel)
+kinds_kept n (row ∷ rows) list h =
+    let s = with_first_some (record_in n row) (records_from (n + 1) rows) list h in
+    subst (All IsOfNoTunnel) (sym s.4) (All-cons IsOfNoTunnel s.0 s.1 (kind_kept n row s.0 s.2) (kinds_kept (n + 1) rows s.1 s.3))
+
+-- rows that are records have no bad one
+pub none_bad : (n : ℕ) (rows : List Row) (list : List Record) → records_from n rows ≡ Some list → bad_from n rows ≡ None
+none_bad n [] list h = refl
+none_bad n (row ∷ rows) list h =
+    let s = with_first_some (record_in n row) (records_from (n + 1) rows) list h in
+    ap (λ o. first_bad n o (bad_from (n + 1) rows)) s.2 ∙ none_bad (n + 1) rows s.1 s.3

@@ -1,14 +1,17 @@
--- What a keeper over a table tells, and why it is refused.
-use Rattle.std.specs.Prelude.{◌≡◌, ◌≢◌, ◌⊎◌, ℕ, ◌+◌, ◌<◌, true, false, ◌&&◌, List, [], length, Option, Some, None, if◌then◌else◌, IsTrue, refl}
+-- What a keeper over a table tells, what its calls leave, and why it is refused.
+use Rattle.std.specs.Prelude.{◌≡◌, ◌≢◌, ◌⊎◌, ℕ, ◌+◌, ◌<◌, true, false, ◌&&◌, List, [], ◌∷◌, ◌++◌, length, Option, Some, None, option_map, if◌then◌else◌, IsTrue, refl}
 use Rattle.std.specs.Coded.{Coded, code_by, coded×, coded_ℕ}
-use Rattle.sqlite_disk.specs.Disk.{MoreFaults}
+use Rattle.ra_keep.specs.Causes.{TellsOnly}
 use Rattle.ra_keep.specs.declared.record.Record.{Record}
 use Rattle.ra_keep_sql.specs.declared.open_fault.OpenFault.{OpenFault}
 use Rattle.ra_keep_sql.specs.declared.open_fault.OpenFault.TheVariants.{Failed, BadRow, NoMemory}
 use Rattle.sqlite.specs.Effect.{Database}
 use Rattle.sqlite.specs.Held.{Held, held_code}
 use Rattle.sqlite.specs.Order.{Row}
-use Rattle.sqlite.specs.State.{State, Shown}
+use Rattle.sqlite.specs.State.{State, Shown, FailsToQuery}
+use Rattle.sqlite.specs.Tree.{Trees}
+use Rattle.sqlite.specs.declared.error.Error.{Error}
+use Rattle.sqlite_disk.specs.Disk.{MoreFaults}
 use Rattle.ra_keep_sql.specs.KeptTable.{kept_schema, no_schema, Below, select_text}
 use Rattle.ra_keep_sql.specs.KeptRows.{records_of, bad_from}
 
@@ -37,11 +40,43 @@ pub record Serves (s : State) (n : ℕ) : Type 0 where
   pub below : Below n (s.now.trees 0)
   pub numbered : (list : List Record) → list_in s.now ≡ Some list → n ≡ 1 + length list
 
--- the records that a database has before its table is made, too
-abbrev pub Has : Database → List Row → Type 0
-Has db rows = ((db.schema ≡ kept_schema) × (rows ≡ db.trees 0)) ⊎ ((db.schema ≡ no_schema) × (rows ≡ []))
+-- the record is there behind the others
+pub record Adds (old new : State) (n : ℕ) (r : Record) : Type 0 where
+  pub serves : IsTrue new.is_open → Serves new (n + 1)
+  pub told : TellsOnly (option_map (λ list. list ++ r ∷ []) (told_in old)) (told_in new)
 
--- the table of records is not alone in the schema, or is another
+-- the records are those that were there
+pub record Stays (old new : State) (n : ℕ) : Type 0 where
+  pub serves : IsTrue new.is_open → Serves new n
+  pub told : TellsOnly (told_in old) (told_in new)
+
+-- each database that a crash may leave has this list, or the second
+abbrev pub LeavesEither : State → List Record → List Record → Type 0
+LeavesEither s list more = (db : Trees) → s.may_leave db → (records_of (db 0) ≡ Some list) ⊎ (records_of (db 0) ≡ Some more)
+
+-- each database that a crash may leave has this list
+abbrev pub Leaves : State → List Record → Type 0
+Leaves s list = (db : Trees) → s.may_leave db → records_of (db 0) ≡ Some list
+
+-- the query was answered, or refused
+abbrev pub Queries : State → State → Type 0
+Queries old new = ((rows : List Row) × Shown select_text [] old new rows) ⊎ ((e : Error) × FailsToQuery select_text [] old new e)
+
+-- the rows of the table, or none where it is not made yet
+abbrev pub HasRows : Database → List Row → Type 0
+HasRows db rows = ((db.schema ≡ kept_schema) × (rows ≡ db.trees 0)) ⊎ ((db.schema ≡ no_schema) × (rows ≡ []))
+
+-- the connection serves a keeper with the records that its database had
+abbrev pub IsServed : State → State → ℕ → Type 0
+IsServed old new n = IsTrue new.is_open × Serves new n × ((rows : List Row) × HasRows old.now rows × (list_in new.now ≡ records_of rows))
+
+-- the keeper tells the records that the database had, or none where its table was not made yet
+pub record Adopts (old new : State) : Type 0 where
+  pub rows : List Row
+  pub there : HasRows old.now rows
+  pub told : told_in new ≡ records_of rows
+
+-- the schema has another table, index or view
 pub record IsOther (db : Database) : Type 0 where
   pub not_kept : db.schema ≢ kept_schema
   pub not_blank : db.schema ≢ no_schema

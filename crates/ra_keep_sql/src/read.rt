@@ -1,10 +1,11 @@
 //! A row as a record.
-ghost use Rattle.std.specs.Prelude.{◌≡◌, Err, Some, IfOk};
+ghost use Rattle.std.specs.Prelude.{◌≡◌, ◌≢◌, Err, Some, IfOk};
 ghost use Rattle.sqlite.specs.Order.{column};
 ghost use Rattle.ra_keep_sql.specs.KeptRows as spec;
 ghost use Rattle.ra_keep_sql.specs.KeptRows.{number_in, token_in, kind_in, records_from, bad_from};
-ghost use Rattle.ra_keep_sql.specs.declared.read.ReadFault.TheVariants as faults;
+ghost use Rattle.ra_keep_sql.specs.declared.open_fault.OpenFault.TheVariants as faults;
 
+use crate::open_fault::OpenFault;
 use ra_base::{Key, Kind, Token};
 use ra_keep::Record;
 use sqlite::Row;
@@ -34,6 +35,7 @@ fn token(row: &Row, at: usize) -> Option<Token>
     }
 }
 
+/// The kind that the number in the place stands for.
 fn kind(row: &Row, at: usize) -> Option<Kind>
     ensures { result ≡ kind_in (column row.now at) }
 {
@@ -65,25 +67,20 @@ pub fn record_in(row: &Row, n: u64) -> Option<Record>
     })
 }
 
-/// Why rows are no records.
-pub enum ReadFault {
-    BadRow { row: u64 },
-    NoMemory,
-}
-
-/// The records that the rows are.
-pub fn records_in(alloc: Global, rows: &[Row]) -> Result<Vec<Record>, ReadFault>
+/// The records that the rows are, or the first row that is none.
+pub fn records_in(alloc: Global, rows: &[Row]) -> Result<Vec<Record>, OpenFault>
     ensures records { IfOk result (λ records. records_from 1 rows.now ≡ Some records.items) }
     ensures bad { (row : _) → result ≡ Err (faults.BadRow row) → bad_from 1 rows.now ≡ Some row }
+    ensures only { result ≢ Err faults.Failed }
 {
     let mut records = Vec::new(alloc);
     for row in rows {
         let n = records.len() as u64 + 1;
         let Some(record) = record_in(row, n) else {
-            return Err(ReadFault::BadRow { row: n });
+            return Err(OpenFault::BadRow { row: n });
         };
         if records.push(record).is_err() {
-            return Err(ReadFault::NoMemory);
+            return Err(OpenFault::NoMemory);
         }
     }
     Ok(records)

@@ -1,9 +1,6 @@
 use Rattle.std.proofs.lemmas.Int.{to_z-of_z}
 use Rattle.std.proofs.Common.{w64}
-use Rattle.ra_keep_sql.proofs.RefusalLemmas.{nothing}
-use Rattle.ra_keep_sql.proofs.KeeperLemmas.{caused}
-use Rattle.ra_keep_sql.proofs.ReadLemmas.{select_fails}
-use Rattle.ra_keep_sql.proofs.MadeLemmas.{create_fails}
+
 use Rattle.ra_keep_sql.proofs.statements.run_insert.Goals as goal
 
 pub returns-clause-runs : goal.returns-clause-runs
