@@ -9,7 +9,15 @@ use Rattle.std.proofs.lemmas.List.Elements.{All-nil, All-cons, All-head, All-tai
 use Rattle.ra_keep.specs.declared.record.Record.{Record}
 use Rattle.ra_keep_sql.specs.KeptTable.{kept_schema, Below, select_text}
 use Rattle.ra_keep_sql.specs.KeptRows.{records_from, records_of, record_in, shown_row, with_first}
-use Rattle.ra_keep_sql.specs.Keepers.{list_in, Serves}
+use Rattle.ra_keep_sql.specs.Keepers.{list_in, told_in, Serves, Stays, Queries}
+use Rattle.ra_keep_sql.specs.KeptRows.{bad_from}
+use Rattle.sqlite.specs.View.{doubt}
+use Rattle.sqlite.specs.State.{HasCleanDisk}
+use Rattle.sqlite.specs.declared.error.Error.TheVariants.{SqliteFailure}
+use Rattle.sqlite.specs.declared.error.ErrorCode.TheVariants as code
+use Rattle.sqlite_disk.specs.Disk.{MoreFaults}
+use Rattle.ra_keep_sql.proofs.OpenLemmas.{shown_open, refused_open}
+use Rattle.ra_keep_sql.proofs.KeeperLemmas.{told_means, told_where, serves_still, caused}
 use Rattle.sqlite.specs.declared.types.Value.{Value}
 use Rattle.sqlite.specs.declared.types.Value.TheVariants.{Null, Int}
 use Rattle.sqlite.specs.declared.error.Error.{Error}
@@ -28,7 +36,7 @@ use Rattle.sqlite.proofs.Callers.{IsPlain, command_of, reads_as}
 use Rattle.sqlite_keyed.proofs.SortLemmas.{sorted_unique}
 use Rattle.sqlite_sql.proofs.QueryLemmas.{output_cmp_total}
 use Rattle.sqlite_tied.specs.Compute.{everything}
-use Rattle.ra_keep_sql.proofs.RowLemmas.{with_first_some, id_is, below_is}
+use Rattle.ra_keep_sql.proofs.RowLemmas.{with_first_some, id_is, below_is, none_bad}
 use Rattle.ra_keep_sql.proofs.CallLemmas.{IsCalled, only_fails_to_show, shown_same}
 
 abbrev query : Query
@@ -173,3 +181,54 @@ select_reads old new rows list has h there = ap (records_from 1) (all_shown old.
 -- the query leaves the database as it was
 pub select_keeps : (old new : State) (rows : List Row) → old.now.schema ≡ kept_schema → Shown select_text [] old new rows → IsUnchanged old new
 select_keeps old new rows has = shown_same select_text [] old new kept_schema has select_command select_is.0 select_plain select_called rows
+
+
+-- the query leaves what a keeper serves
+pub queries_stay : (old new : State) (n : ℕ) → (HasCleanDisk old → IsTrue old.is_open → Serves old n) → doubt old.is_clean ≤ doubt new.is_clean → new.step_limit ≡ old.step_limit → HasCleanDisk new → Queries old new → Stays old new n
+queries_stay old new n start falls limit clean (inl (rows, h)) =
+    let was : HasCleanDisk old = omega (arith, falls, clean) in
+    let was_open = shown_open select_text [] old new rows h in
+    let serves = start was was_open in
+    let same = select_keeps old new rows serves.schema h in
+    record {
+      serves = λ up. record {
+        schema = ap (λ (d : Database). d.schema) same.0.now_is ∙ serves.schema;
+        settled = same.0.now_is ∙ (serves.settled ∙ sym same.0.committed_is);
+        autocommit = same.0.mode ∙ serves.autocommit;
+        unlimited = limit ∙ serves.unlimited;
+        below = subst (λ (d : Database). Below n (d.trees 0)) (sym same.0.now_is) serves.below;
+        numbered = λ list is. serves.numbered list (ap list_in (sym same.0.now_is) ∙ is);
+      };
+      told = λ list is. told_where old was was_open ∙ (ap list_in (sym same.0.now_is) ∙ (told_means new list is).2);
+    }
+queries_stay old new n start falls limit clean (inr (e, h)) =
+    let was : HasCleanDisk old = omega (arith, falls, clean) in
+    let left = λ (up : IsTrue new.is_open).
+    let serves = start was (refused_open select_text [] old new e h up) in
+    serves_still old new n e serves limit (select_fails old new e serves.schema serves.unlimited h) up in
+    record {
+      serves = λ up. (left up).0;
+      told = λ list is.
+      let t = told_means new list is in
+      told_where old was (refused_open select_text [] old new e h t.1) ∙ (ap list_in (sym (left t.1).1) ∙ t.2);
+    }
+
+-- what is read is what is told
+pub reads_told : (old new : State) (n : ℕ) (rows : List Row) (read list : List Record) → (HasCleanDisk old → IsTrue old.is_open → Serves old n) → doubt old.is_clean ≤ doubt new.is_clean → Shown select_text [] old new rows
+    → records_from 1 rows ≡ Some read → told_in new ≡ Some list → read ≡ list
+reads_told old new n rows read list start falls h is told =
+    let t = told_means new list told in
+    let was : HasCleanDisk old = omega (arith, falls, t.0) in
+    let serves = start was (shown_open select_text [] old new rows h) in
+    let same = select_keeps old new rows serves.schema h in
+    let both : Some read ≡ Some list = sym is ∙ select_reads old new rows list serves.schema h (ap list_in (sym same.0.now_is) ∙ t.2) in
+    cc
+
+-- a query that fails where the records are told: the store failed
+pub read_fault : (old new : State) (n : ℕ) (e : Error) → Serves old n → IsTrue old.is_open → FailsToQuery select_text [] old new e → e ≢ SqliteFailure code.OutOfMemory → MoreFaults old.faults new.faults
+read_fault old new n e serves up h other = elim (caused old new e up (select_fails old new e serves.schema serves.unlimited h)) [ inl memory ↦ absurd (other memory) | inr fault ↦ fault ]
+
+-- no bad row is read where the records are told
+pub no_bad_read : (old new : State) (n : ℕ) (rows : List Row) (row : ℕ) (list : List Record) → Serves old n → list_in old.now ≡ Some list → Shown select_text [] old new rows → ¬ (bad_from 1 rows ≡ Some row)
+no_bad_read old new n rows row list serves there h bad =
+    let none = none_bad 1 rows list (select_reads old new rows list serves.schema h there) in let both : None ≡ Some row = sym none ∙ bad in cc

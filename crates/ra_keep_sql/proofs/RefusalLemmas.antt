@@ -37,9 +37,6 @@ use Rattle.sqlite_schema.specs.declared.schema.Constraint.TheVariants.{Datatype,
 use Rattle.ra_keep_sql.proofs.RowLemmas.{below_is}
 use Rattle.ra_keep_sql.proofs.StatementLemmas.{terms, insert_command, cast_int, cast_null}
 
-pub nothing : Unit {0}
-nothing = tt
-
 abbrev edit_for : Trees → ℕ → Record → Edit
 edit_for db n r = record { table = kept_table; gone = []; news = stored n r ∷ [] }
 

@@ -81,9 +81,13 @@ pub record IsOther (db : Database) : Type 0 where
   pub not_kept : db.schema ≢ kept_schema
   pub not_blank : db.schema ≢ no_schema
 
+-- the connection with no limit on steps
+abbrev pub unlimited : State → State
+unlimited s = record s { step_limit = None }
+
 -- why no keeper is made over a connection, which is `new` afterwards
 abbrev pub IsRefused : State → State → OpenFault → Type 0
 IsRefused old new NoMemory = Unit {0}
 IsRefused old new (BadRow row) =
-    (old.now.schema ≡ kept_schema) × (list_in old.now ≡ None) × ((rows : List Row) × Shown select_text [] old new rows × (bad_from 1 rows ≡ Some row))
+    (old.now.schema ≡ kept_schema) × (list_in old.now ≡ None) × ((rows : List Row) × Shown select_text [] (unlimited old) new rows × (bad_from 1 rows ≡ Some row))
 IsRefused old new Failed = IsTrue old.in_transaction ⊎ (IsOther old.now ⊎ ((old.is_open ≡ false) ⊎ MoreFaults old.faults new.faults))

@@ -6,7 +6,7 @@ ghost use Rattle.ra_keep.specs.declared.record.Record.{Record as Kept};
 ghost use Rattle.ra_keep_sql.specs.declared.open_fault.OpenFault.TheVariants as faults;
 ghost use Rattle.ra_keep_sql.specs.KeptTable.{kept_schema, no_schema, select_text};
 ghost use Rattle.ra_keep_sql.specs.KeptRows.{records_from, bad_from};
-ghost use Rattle.ra_keep_sql.specs.Keepers.{list_in, Serves, Adds, Stays, LeavesEither, Leaves, Queries, IsServed, IsRefused};
+ghost use Rattle.ra_keep_sql.specs.Keepers.{list_in, told_in, Serves, Adds, Stays, LeavesEither, Leaves, Queries, IsServed, IsRefused};
 ghost use Rattle.sqlite.specs.declared.error.Error.TheVariants.{SqliteFailure};
 ghost use Rattle.sqlite.specs.declared.error.ErrorCode.TheVariants as codes;
 ghost use Rattle.sqlite.specs.declared.error.Error.{Error};
@@ -57,7 +57,7 @@ pub fn add<S: Alter>(conn: &mut Connection<S>, n: u64, kept: &Record) -> Result<
 }
 
 /// The records that the query reads.
-pub fn read<S: Alter>(
+fn read<S: Alter>(
     alloc: Global,
     conn: &mut Connection<S>,
 ) -> Result<Vec<Record>, OpenFault>
@@ -77,6 +77,27 @@ pub fn read<S: Alter>(
                 Err(OpenFault::Failed)
             }
         }
+    }
+}
+
+/// The records that the table has.
+pub fn read_all<S: Alter>(
+    alloc: Global,
+    conn: &mut Connection<S>,
+) -> Result<Vec<Record>, KeepFault>
+    ensures records { IfOk result (λ records. (n : ℕ) → (HasCleanDisk (state S.Store conn.old) → IsTrue (state S.Store conn.old).is_open → Serves (state S.Store conn.old) n)
+        → (list : List Kept) → told_in (state S.Store conn.new) ≡ Some list → records.items ≡ list) }
+    ensures kinds { IfOk result (λ records. All IsOfNoTunnel records.items) }
+    ensures same { (n : ℕ) → (HasCleanDisk (state S.Store conn.old) → IsTrue (state S.Store conn.old).is_open → Serves (state S.Store conn.old) n)
+        → HasCleanDisk (state S.Store conn.new) → Stays (state S.Store conn.old) (state S.Store conn.new) n }
+    ensures failed { (n : ℕ) → Serves (state S.Store conn.old) n → IsTrue (state S.Store conn.old).is_open → (list : List Kept) → list_in (state S.Store conn.old).now ≡ Some list
+        → HasCleanDisk (state S.Store conn.new) → OnFailed result (MoreFaults (state S.Store conn.old).faults (state S.Store conn.new).faults) }
+{
+    match read(alloc, conn) {
+        Ok(records) => Ok(records),
+        Err(OpenFault::NoMemory) => Err(KeepFault::NoMemory),
+        Err(OpenFault::Failed) => Err(KeepFault::Failed),
+        Err(OpenFault::BadRow { row: _ }) => Err(KeepFault::Failed),
     }
 }
 

@@ -10,10 +10,10 @@ ghost use Rattle.sqlite.specs.Steps.{over_memory};
 ghost use Rattle.sqlite.specs.State.{HasCleanDisk};
 ghost use Rattle.sqlite_disk.specs.Disk.{MoreFaults};
 
-use crate::calls::{add, prepare, read};
+use crate::calls::{add, prepare, read_all};
 use crate::open_fault::OpenFault;
 use ra_keep::{KeepFault, Keeper, Record};
-use sqlite::{Alter, Connection, File, FileStore, MemStore};
+use sqlite::{Alter, Connection, Error, ErrorCode, File, FileStore, MemStore};
 use std::alloc::Global;
 use std::marker::Model;
 use std::rt::HostRuntime;
@@ -120,6 +120,32 @@ impl SqlKeeper<MemStore> {
     }
 }
 
+impl SqlKeeper<FileStore<File>> {
+    /// A keeper over the file at the path, which is made where it is missing. What it holds is known by `all` alone.
+    pub fn open(rt: &HostRuntime, path: &str) -> Result<SqlKeeper<FileStore<File>>, OpenFault>
+        ensures { IfOk result (λ k. k.faults ≡ 0) }
+    {
+        let connection = match Connection::open(rt, path) {
+            Ok(connection) => connection,
+            Err(Error::SqliteFailure(ErrorCode::OutOfMemory)) => return Err(OpenFault::NoMemory),
+            Err(_) => return Err(OpenFault::Failed),
+        };
+        match SqlKeeper::adopt(rt.alloc(), connection) {
+            Ok(keeper) => Ok(keeper),
+            Err(refused) => Err(refused.fault),
+        }
+    }
+
+    /// Copies the log back into the file, and closes it. Where the keeper is dropped instead, the file and its log belong together.
+    pub fn close(self) -> Result<(), OpenFault> {
+        match self.into_connection().close() {
+            Ok(()) => Ok(()),
+            Err(Error::SqliteFailure(ErrorCode::OutOfMemory)) => Err(OpenFault::NoMemory),
+            Err(_) => Err(OpenFault::Failed),
+        }
+    }
+}
+
 impl<S: Alter> Keeper for SqlKeeper<S> {
     ghost use Rattle.ra_keep_sql.specs.Keepers.{told_in, LeavesEither, Leaves};
 
@@ -169,10 +195,10 @@ impl<S: Alter> Keeper for SqlKeeper<S> {
         ensures failed { (list : List Kept) → told_in (state S.Store self.old.connection) ≡ Some list → HasCleanDisk (state S.Store self.new.connection)
             → OnFailed result (MoreFaults (state S.Store self.old.connection).faults (state S.Store self.new.connection).faults) }
     {
-        match read(alloc, &mut self.conn) {
+        match read_all(alloc, &mut self.conn) {
             Ok(records) => Ok(records),
-            Err(OpenFault::NoMemory) => Err(KeepFault::NoMemory),
-            Err(_) => {
+            Err(KeepFault::NoMemory) => Err(KeepFault::NoMemory),
+            Err(KeepFault::Failed) => {
                 self.faults = self.faults.saturating_add(1);
                 Err(KeepFault::Failed)
             }
