@@ -1,15 +1,14 @@
 -- What adding a record does to a keeper's connection, and what a crash leaves of it.
-use Rattle.std.proofs.Common.{◌≡◌, ◌≢◌, ◌⊎◌, inl, inr, ℕ, ◌+◌, ◌<◌, ◌^◌, List, [], ◌∷◌, ◌++◌, Option, Some, None, option_map, Ok, Err, Result, IsTrue, refl, sym, ap, subst, ◌∙◌, arith}
+use Rattle.std.proofs.Common.{◌≡◌, ◌≢◌, inl, inr, ℕ, ◌<◌, ◌^◌, List, [], ◌∷◌, ◌++◌, Some, Ok, Err, IsTrue, sym, ap, ◌∙◌, arith}
 use Rattle.ra_base.specs.declared.kind.Kind.TheVariants.{Tunnel}
 use Rattle.ra_base.specs.TokenGrammar.{IsToken}
 use Rattle.ra_keep.specs.declared.record.Record.{Record}
 use Rattle.ra_keep_sql.specs.KeptTable.{inserted, insert_text}
 use Rattle.ra_keep_sql.specs.KeptRows.{records_of}
-use Rattle.ra_keep_sql.specs.Keepers.{list_in, told_in, Serves, Adds, Stays, LeavesEither, Leaves}
+use Rattle.ra_keep_sql.specs.Keepers.{list_in, Serves, Adds, Stays, LeavesEither, Leaves}
 use Rattle.sqlite.specs.declared.error.Error.{Error}
 use Rattle.sqlite.specs.declared.error.Error.TheVariants.{SqliteFailure}
 use Rattle.sqlite.specs.declared.error.ErrorCode.TheVariants as code
-use Rattle.sqlite.specs.Effect.{Database}
 use Rattle.sqlite.specs.Tree.{Trees}
 use Rattle.sqlite.specs.State.{State, HasCleanDisk, Executes, Survives, CommitsBy}
 use Rattle.sqlite_disk.specs.Disk.{MoreFaults}
@@ -30,23 +29,23 @@ module _ (old new : State) (n : ℕ) (r : Record) (fits : n < 2 ^ 63) (none : r.
   adds_ok count h = record {
     serves = λ up. (insert_adds old new n r (start was_clean (executed_open insert_text (inserted n r) old new (Ok count) h up)) fits none at token count survives.limit h).2;
     told = λ list is.
-    let up = (told_means new list is).1 in
-    let serves = start was_clean (executed_open insert_text (inserted n r) old new (Ok count) h up) in
-    let done = insert_adds old new n r serves fits none at token count survives.limit h in
-    insert_tells old new n r serves fits none at token done.3 was_clean done.0 list is;
+        let up = (told_means new list is).1 in
+        let serves = start was_clean (executed_open insert_text (inserted n r) old new (Ok count) h up) in
+        let done = insert_adds old new n r serves fits none at token count survives.limit h in
+        insert_tells old new n r serves fits none at token done.3 was_clean done.0 list is;
   }
 
   pub stays_err : (e : Error) → Executes insert_text (inserted n r) old new (Err e) → Stays old new n
   stays_err e h = record {
     serves = λ up.
-    let serves = start was_clean (executed_open insert_text (inserted n r) old new (Err e) h up) in
-    (serves_still old new n e serves survives.limit (insert_fails old new n r serves fits none at token e h) up).0;
+        let serves = start was_clean (executed_open insert_text (inserted n r) old new (Err e) h up) in
+        (serves_still old new n e serves survives.limit (insert_fails old new n r serves fits none at token e h) up).0;
     told = λ list is.
-    let t = told_means new list is in
-    let was_open = executed_open insert_text (inserted n r) old new (Err e) h t.1 in
-    let serves = start was_clean was_open in
-    let same = (serves_still old new n e serves survives.limit (insert_fails old new n r serves fits none at token e h) t.1).1 in
-    told_where old was_clean was_open ∙ (ap list_in (sym same) ∙ t.2);
+        let t = told_means new list is in
+        let was_open = executed_open insert_text (inserted n r) old new (Err e) h t.1 in
+        let serves = start was_clean was_open in
+        let same = (serves_still old new n e serves survives.limit (insert_fails old new n r serves fits none at token e h) t.1).1 in
+        told_where old was_clean was_open ∙ (ap list_in (sym same) ∙ t.2);
   }
 
   pub failed_by : IsTrue old.is_open → (e : Error) → Executes insert_text (inserted n r) old new (Err e) → e ≢ SqliteFailure code.OutOfMemory → MoreFaults old.faults new.faults

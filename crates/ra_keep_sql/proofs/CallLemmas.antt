@@ -1,6 +1,5 @@
 -- What a statement that is refused leaves, and why it is.
-use Rattle.std.proofs.Common.{◌≡◌, ◌≢◌, ◌⊎◌, inl, inr, ℕ, ◌≤◌, ◌+◌, ◌<◌, ◌^◌, List, [], ◌∷◌, ◌++◌, length, Bool, true, false, cond, Option, Some, None, Ok, Err, Result, OnOk, OnErr, IsTrue, MatchBool, refl, sym, ap, subst, ◌∙◌, arith}
-use Rattle.std.proofs.lemmas.Bool.{cases_Bool}
+use Rattle.std.proofs.Common.{◌≡◌, ◌⊎◌, inl, inr, ℕ, ◌≤◌, List, length, false, Option, Some, None, Ok, Err, Result, sym, ap, subst, ◌∙◌}
 use Rattle.sqlite.specs.Clock.{timed}
 use Rattle.sqlite.specs.Command.{Command}
 use Rattle.sqlite.specs.Does.{Does}
@@ -9,11 +8,10 @@ use Rattle.sqlite.specs.Listing.{understood, reads_listing, IsSourceOf}
 use Rattle.sqlite.specs.Order.{Row}
 use Rattle.sqlite.specs.Schema.{Schema}
 use Rattle.sqlite.specs.declared.error.Error.{Error}
-use Rattle.sqlite.specs.State.{State, mode_of, Executes, ExecutesIn, IsNotRun, RunsCommand, IsUnchanged, IsMisplaced, MayChange, Fails, HasCause, shows_rows, text_of, FailsToQuery, Shown}
+use Rattle.sqlite.specs.State.{State, mode_of, Executes, ExecutesIn, IsNotRun, RunsCommand, IsUnchanged, IsMisplaced, Fails, shows_rows, text_of, FailsToQuery, Shown}
 use Rattle.sqlite.proofs.Callers.{IsPlain, command_of, statement_of}
 use Rattle.sqlite_resolve.specs.declared.compiled.Compiled.{Compiled}
 use Rattle.sqlite_resolve.specs.declared.error.CompileError.{CompileError}
-use Rattle.sqlite_trees.specs.declared.error.StoreError.{StoreError}
 use Rattle.sqlite_trees.specs.declared.error.StoreError.TheVariants.{OutOfMemory, Io, Corrupt, Full, Broken, Unstorable}
 use Rattle.std.proofs.Common.{append-nil, subst₂}
 

@@ -3,13 +3,12 @@ use Rattle.std.proofs.Common.{◌≡◌, ◌≢◌, ◌⊎◌, inl, inr, ℕ, �
 use Rattle.ra_base.specs.declared.kind.Kind.TheVariants.{Tunnel}
 use Rattle.ra_base.specs.TokenGrammar.{IsToken}
 use Rattle.ra_keep.specs.declared.record.Record.{Record}
-use Rattle.ra_keep_sql.specs.KeptTable.{kept_schema, no_schema, stored, inserted, Below, create_text, insert_text, select_text}
+use Rattle.ra_keep_sql.specs.KeptTable.{kept_schema, stored, inserted, Below, insert_text}
 use Rattle.ra_keep_sql.specs.KeptRows.{records_of}
 use Rattle.ra_keep_sql.specs.Keepers.{list_in, told_in, Serves}
 use Rattle.sqlite.specs.declared.error.Error.{Error}
 use Rattle.sqlite.specs.declared.error.Error.TheVariants.{SqliteFailure}
 use Rattle.sqlite.specs.declared.error.ErrorCode.TheVariants as code
-use Rattle.sqlite.specs.Command.{Command}
 use Rattle.sqlite.specs.Effect.{Database}
 use Rattle.sqlite.specs.Listing.{understood}
 use Rattle.sqlite.specs.Tree.{Trees}
@@ -20,7 +19,6 @@ use Rattle.sqlite_disk.specs.Disk.{MoreFaults}
 use Rattle.sqlite.proofs.Callers.{IsPlain, runs_as, statement_of, command_of}
 use Rattle.sqlite_tied.specs.Compute.{everything}
 use Rattle.sqlite_trees.proofs.Doubt.{clean_of, no_doubt}
-use Rattle.sqlite_trees.specs.declared.store.Store.{Ghosts}
 use Rattle.sqlite_trees.specs.declared.error.StoreError.TheVariants.{OutOfMemory, Io, Corrupt, Full, Broken, Unstorable}
 use Rattle.ra_keep_sql.proofs.RowLemmas.{below_more, only_more, one_more}
 use Rattle.ra_keep_sql.proofs.StatementLemmas.{insert_is, insert_plain, insert_command, adds}
@@ -63,8 +61,7 @@ caused old new e up (Unstorable, is, why, back, tells) = absurd why
 pub serves_still : (old new : State) (n : ℕ) (e : Error) → Serves old n → new.step_limit ≡ old.step_limit → Fails old new ⊥ e → IsTrue new.is_open → Serves new n × (new.now ≡ old.now)
 serves_still old new n e serves limit fails up =
     let back = fails.3.undone up in
-    let same : new.now ≡ old.now = back.0 ∙ sym serves.settled in
-    (
+    let same : new.now ≡ old.now = back.0 ∙ sym serves.settled in (
       record {
         schema = ap (λ (d : Database). d.schema) same ∙ serves.schema;
         settled = back.0 ∙ sym back.1;
@@ -87,16 +84,15 @@ module _ (old new : State) (n : ℕ) (r : Record) (serves : Serves old n) (fits 
   -- only the store refuses a record
   pub insert_fails : (e : Error) → Executes insert_text (inserted n r) old new (Err e) → Fails old new ⊥ e
   insert_fails = only_fails insert_text (inserted n r) old new kept_schema serves.schema insert_command insert_is insert_plain insert_called insert_quiet
-    (λ stop. never_stops old old.now (statement_of insert_text (understood kept_schema insert_text)) n r stop serves.schema serves.unlimited serves.below fits token) (unplaced old)
+      (λ stop. never_stops old old.now (statement_of insert_text (understood kept_schema insert_text)) n r stop serves.schema serves.unlimited serves.below fits token) (unplaced old)
 
   -- the record is there behind the others
   pub insert_adds : (count : ℕ) → new.step_limit ≡ old.step_limit → Executes insert_text (inserted n r) old new (Ok count)
-    → IsTrue old.is_open × IsTrue new.is_open × Serves new (n + 1) × (new.now.trees 0 ≡ old.now.trees 0 ++ stored n r ∷ [])
+      → IsTrue old.is_open × IsTrue new.is_open × Serves new (n + 1) × (new.now.trees 0 ≡ old.now.trees 0 ++ stored n r ∷ [])
   insert_adds count limit h =
       let w = runs_as insert_text (inserted n r) old new kept_schema serves.schema insert_command insert_is insert_plain count h in
       let done = adds old old.now new.now w.tally (statement_of insert_text (understood kept_schema insert_text)) n r serves.schema serves.below w.changed in
-      let committed : new.committed ≡ new.now = rw serves.autocommit at w.shown.committed_is in
-      (
+      let committed : new.committed ≡ new.now = rw serves.autocommit at w.shown.committed_is in (
         w.shown.was_open,
         w.shown.is_open,
         record {
@@ -106,14 +102,14 @@ module _ (old new : State) (n : ℕ) (r : Record) (serves : Serves old n) (fits 
           unlimited = limit ∙ serves.unlimited;
           below = subst (Below (n + 1)) (sym done.1) (below_more n (old.now.trees 0) r serves.below);
           numbered = λ list h. let s = only_more n (old.now.trees 0) r list serves.numbered none at token (ap records_of (sym done.1) ∙ h) in
-          omega (arith, serves.numbered s.0 s.1, ap length s.2, Rattle.std.proofs.Common.length-append s.0 (r ∷ []));
+              omega (arith, serves.numbered s.0 s.1, ap length s.2, Rattle.std.proofs.Common.length-append s.0 (r ∷ []));
         },
         done.1,
       )
 
   -- and the list that is told is the one that is due
   pub insert_tells : new.now.trees 0 ≡ old.now.trees 0 ++ stored n r ∷ [] → HasCleanDisk old → IsTrue old.is_open → (list : List Record) → told_in new ≡ Some list
-    → option_map (λ l. l ++ r ∷ []) (told_in old) ≡ Some list
+      → option_map (λ l. l ++ r ∷ []) (told_in old) ≡ Some list
   insert_tells rows clean up list h =
       let t = told_means new list h in
       let s = only_more n (old.now.trees 0) r list serves.numbered none at token (ap records_of (sym rows) ∙ t.2) in

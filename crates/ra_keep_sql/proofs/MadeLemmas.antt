@@ -1,13 +1,12 @@
 -- What the statement that makes the table does.
-use Rattle.std.proofs.Common.{◌≡◌, ◌≢◌, ◌⊎◌, inl, inr, ℕ, ◌≤◌, ◌+◌, ◌<◌, ◌*◌, ◌^◌, List, [], ◌∷◌, length, codes, Bool, true, false, Option, Some, None, Ok, Err, Result, IsTrue, refl, sym, ap, subst, ◌∙◌, arith, nat_lt, get_or}
+use Rattle.std.proofs.Common.{◌≡◌, inl, inr, ℕ, ◌≤◌, ◌+◌, ◌<◌, ◌*◌, ◌^◌, List, [], ◌∷◌, length, codes, Bool, true, false, Option, Some, None, Ok, Err, Result, IsTrue, refl, sym, ap, subst, ◌∙◌, arith, nat_lt}
 use Rattle.std.specs.Prelude.{IsUtf8}
 use Rattle.std.proofs.lemmas.Str.{IsUtf8-from_ascii}
 use Rattle.std.proofs.lemmas.List.Sums.{AllPass-from_list_all}
 use Rattle.std.specs.List.{list_all, AllPass}
-use Rattle.ra_keep.specs.declared.record.Record.{Record}
 use Rattle.ra_keep_sql.specs.KeptTable.{kept_table, kept_schema, no_schema, Below, create_text}
 use Rattle.ra_keep_sql.specs.KeptRows.{records_of}
-use Rattle.ra_keep_sql.specs.Keepers.{list_in, Serves}
+use Rattle.ra_keep_sql.specs.Keepers.{Serves}
 use Rattle.sqlite.specs.declared.error.Error.{Error}
 use Rattle.sqlite.specs.Change.{created, next_tree}
 use lib.Ieee.{is_nan, lt}
@@ -26,10 +25,9 @@ use Rattle.sqlite_schema.specs.Rules.{table_reals}
 use Rattle.sqlite.specs.declared.types.Value.TheVariants.{Text}
 use Rattle.sqlite.specs.Command.TheVariants.{CreateTable}
 use Rattle.sqlite.specs.Compile.{table_defined_by}
-use Rattle.sqlite.specs.Does.{Tally, Does, MakesTable, MakesSequence, lacks_sequence}
+use Rattle.sqlite.specs.Does.{Tally, Does, MakesTable, lacks_sequence}
 use Rattle.sqlite.specs.Effect.{Database}
 use Rattle.sqlite.specs.Listing.{understood}
-use Rattle.sqlite.specs.Rows.{Then}
 use Rattle.sqlite.specs.Table.{Table}
 use Rattle.sqlite.specs.State.{State, mode_of, Executes, Fails, IsMisplaced, Writes}
 use Rattle.sqlite.proofs.Callers.{IsPlain, command_of, statement_of, runs_as}
@@ -118,8 +116,7 @@ create_makes old new count has settled unlimited limit h =
     let schema : new.now.schema ≡ kept_schema = ap (λ (d : Database). d.schema) now ∙ made.0 in
     let empty : new.now.trees 0 ≡ [] = ap (λ (d : Database). d.trees 0) now ∙ made.1 in
     let committed : new.committed ≡ new.now = rw settled at w.shown.committed_is in
-    let few : records_of (new.now.trees 0) ≡ Some [] = ap records_of empty in
-    (
+    let few : records_of (new.now.trees 0) ≡ Some [] = ap records_of empty in (
       w.shown.was_open,
       w.shown.is_open,
       record {

@@ -1,7 +1,6 @@
 -- That a connection that is open after a statement was open before it.
-use Rattle.std.proofs.Common.{◌≡◌, ◌⊎◌, inl, inr, ℕ, List, [], Bool, true, false, Option, Some, None, Ok, Err, Result, IsTrue}
+use Rattle.std.proofs.Common.{inl, inr, ℕ, List, false, Option, Some, None, Ok, Err, Result, IsTrue}
 use Rattle.std.proofs.lemmas.Bool.{cases_Bool}
-use Rattle.sqlite.specs.Clock.{timed}
 use Rattle.sqlite.specs.Command.{Command}
 use Rattle.sqlite.specs.Command.TheVariants.{Select, Insert, InsertOr, Update, Delete, CreateTable, CreateIndex, DropTable, DropIndex, Begin, Commit, Rollback, Savepoint, Release, RollbackTo, Nothing, CreateView, DropView, Rows}
 use Rattle.sqlite.specs.Order.{Row}
@@ -46,9 +45,9 @@ unrun old new sql params e (inr h) up = h.3.was_open up
 
 alone : (old new : State) (sql : List ℕ) (c : Compiled) (params : Row) (r : Result ℕ Error) → RunsAlone false old new sql c params r → IsTrue new.is_open → IsTrue old.is_open
 alone old new sql c params r h up = elim (cases_Bool (shows_rows false c)) [
-    | inl shows ↦ (rw shows at h).1.0.was_open
-    | inr quiet ↦ commanded old new sql c params r (rw quiet at h) up
-  ]
+  | inl shows ↦ (rw shows at h).1.0.was_open
+  | inr quiet ↦ commanded old new sql c params r (rw quiet at h) up
+]
 
 pub executed_open : (sql : List ℕ) (params : Row) (old new : State) (r : Result ℕ Error) → Executes sql params old new r → IsTrue new.is_open → IsTrue old.is_open
 unfolding ExecutesIn

@@ -1,22 +1,19 @@
 -- What reading and making the table leave of a connection.
-use Rattle.std.proofs.Common.{◌≡◌, ◌≢◌, ◌⊎◌, inl, inr, ℕ, ◌+◌, List, [], ◌∷◌, length, Bool, true, false, Option, Some, None, Ok, Err, Result, IsTrue, refl, sym, ap, subst, ◌∙◌, arith}
+use Rattle.std.proofs.Common.{◌≡◌, ◌≢◌, ◌⊎◌, inl, inr, ℕ, ◌+◌, List, [], length, false, Option, Some, None, Ok, Err, IsTrue, refl, sym, ap, subst, ◌∙◌, arith}
 use Rattle.std.proofs.lemmas.Bool.{cases_Bool}
 use Rattle.ra_keep.specs.declared.record.Record.{Record}
 use Rattle.ra_keep_sql.specs.declared.open_fault.OpenFault.TheVariants.{Failed, BadRow, NoMemory}
 use Rattle.ra_keep_sql.specs.declared.open_fault.OpenFault.{OpenFault}
 use Rattle.ra_keep_sql.specs.KeptTable.{kept_schema, no_schema, create_text, select_text}
 use Rattle.ra_keep_sql.specs.KeptRows.{records_of, records_from, bad_from}
-use Rattle.ra_keep_sql.specs.Keepers.{list_in, told_in, Serves, HasRows, Adopts, IsServed, IsRefused}
+use Rattle.ra_keep_sql.specs.Keepers.{list_in, told_in, Serves, Adopts, IsServed, IsRefused}
 use Rattle.sqlite.specs.declared.error.Error.{Error}
 use Rattle.sqlite.specs.declared.error.Error.TheVariants.{SqliteFailure}
 use Rattle.sqlite.specs.declared.error.ErrorCode.TheVariants as code
-use Rattle.sqlite.specs.Effect.{Database}
 use Rattle.sqlite.specs.Order.{Row}
 use Rattle.sqlite.specs.State.{State, Executes, Fails, Shown, FailsToQuery, Opens}
 use Rattle.sqlite.specs.Schema.{Schema}
-use Rattle.sqlite_disk.specs.Disk.{MoreFaults}
 use Rattle.ra_keep_sql.proofs.RowLemmas.{none_bad}
-use Rattle.ra_keep_sql.proofs.OpenLemmas.{shown_open}
 use Rattle.ra_keep_sql.proofs.KeeperLemmas.{caused}
 use Rattle.ra_keep_sql.proofs.ReadLemmas.{select_serves, select_reads, select_keeps, select_fails}
 use Rattle.ra_keep_sql.proofs.MadeLemmas.{create_makes, create_fails}
@@ -31,9 +28,9 @@ read_served old new rows list has settled autocommit unlimited limit h read =
 -- a fault of the store, or it was shut
 faulted : (old new : State) (e : Error) → Fails old new ⊥ e → e ≢ SqliteFailure code.OutOfMemory → IsRefused old new Failed
 faulted old new e fails other = elim (cases_Bool old.is_open) [
-    | inl up ↦ elim (caused old new e up fails) [ inl memory ↦ absurd (other memory) | inr fault ↦ inr (inr (inr fault)) ]
-    | inr shut ↦ inr (inr (inl shut))
-  ]
+  | inl up ↦ elim (caused old new e up fails) [ inl memory ↦ absurd (other memory) | inr fault ↦ inr (inr (inr fault)) ]
+  | inr shut ↦ inr (inr (inl shut))
+]
 
 pub read_failed : (old new : State) (e : Error) → old.now.schema ≡ kept_schema → old.step_limit ≡ None → FailsToQuery select_text [] old new e → e ≢ SqliteFailure code.OutOfMemory → IsRefused old new Failed
 read_failed old new e has unlimited h other = faulted old new e (select_fails old new e has unlimited h) other
@@ -44,13 +41,13 @@ option_cases None = inr refl
 
 pub read_bad : (old new : State) (rows : List Row) (row : ℕ) → old.now.schema ≡ kept_schema → old.step_limit ≡ None → Shown select_text [] old new rows → bad_from 1 rows ≡ Some row → IsRefused old new (BadRow row)
 read_bad old new rows row has free h bad = (
-    has,
-    elim (option_cases (list_in old.now)) [
-      | inl there ↦ absurd (let none = none_bad 1 rows there.0 (select_reads old new rows there.0 has h there.1) in let both : None ≡ Some row = sym none ∙ bad in cc)
-      | inr none ↦ none
-    ],
-    (rows, subst (λ limit. Shown select_text [] (record old { step_limit = limit }) new rows) free h, bad),
-  )
+  has,
+  elim (option_cases (list_in old.now)) [
+    | inl there ↦ absurd (let none = none_bad 1 rows there.0 (select_reads old new rows there.0 has h there.1) in let both : None ≡ Some row = sym none ∙ bad in cc)
+    | inr none ↦ none
+  ],
+  (rows, subst (λ limit. Shown select_text [] (record old { step_limit = limit }) new rows) free h, bad),
+)
 
 pub made_served : (old new : State) (count : ℕ) → old.now.schema ≡ no_schema → old.in_transaction ≡ false → old.step_limit ≡ None → new.step_limit ≡ old.step_limit → Executes create_text [] old new (Ok count) → IsServed old new 1
 made_served old new count has autocommit unlimited limit h =

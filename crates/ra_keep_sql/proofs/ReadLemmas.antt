@@ -1,5 +1,5 @@
 -- What the query shows of the table.
-use Rattle.std.proofs.Common.{◌≡◌, ◌≢◌, ◌⊎◌, inl, inr, ℕ, ◌≤◌, ◌+◌, ◌<◌, zero, suc, pos, negsuc, List, [], ◌∷◌, ◌++◌, map, length, codes, Bool, true, false, Option, Some, None, Ok, Err, Result, OnOk, IsTrue, refl, sym, ap, subst, ◌∙◌, arith}
+use Rattle.std.proofs.Common.{◌≡◌, ◌≢◌, inl, inr, ℕ, ◌≤◌, ◌+◌, ◌<◌, pos, negsuc, List, [], ◌∷◌, map, length, codes, false, Some, None, IsTrue, refl, sym, ap, subst, ◌∙◌, arith}
 use Rattle.std.specs.declared.cmp.Ordering.TheVariants.{Less}
 use Rattle.std.specs.List.{AllByRecursion}
 use Rattle.std.specs.List.Sorted.{IsPermutation}
@@ -8,7 +8,7 @@ use Rattle.std.proofs.lemmas.List.Sorted.{IsPermutation-map, IsPermutation-sym, 
 use Rattle.std.proofs.lemmas.List.Elements.{All-nil, All-cons, All-head, All-tail}
 use Rattle.ra_keep.specs.declared.record.Record.{Record}
 use Rattle.ra_keep_sql.specs.KeptTable.{kept_schema, Below, select_text}
-use Rattle.ra_keep_sql.specs.KeptRows.{records_from, records_of, record_in, shown_row, with_first}
+use Rattle.ra_keep_sql.specs.KeptRows.{records_from, records_of, record_in, shown_row}
 use Rattle.ra_keep_sql.specs.Keepers.{list_in, told_in, Serves, Stays, Queries}
 use Rattle.ra_keep_sql.specs.KeptRows.{bad_from}
 use Rattle.sqlite.specs.View.{doubt}
@@ -18,7 +18,6 @@ use Rattle.sqlite.specs.declared.error.ErrorCode.TheVariants as code
 use Rattle.sqlite_disk.specs.Disk.{MoreFaults}
 use Rattle.ra_keep_sql.proofs.OpenLemmas.{shown_open, refused_open}
 use Rattle.ra_keep_sql.proofs.KeeperLemmas.{told_means, told_where, serves_still, caused}
-use Rattle.sqlite.specs.declared.types.Value.{Value}
 use Rattle.sqlite.specs.declared.types.Value.TheVariants.{Null, Int}
 use Rattle.sqlite.specs.declared.error.Error.{Error}
 use Rattle.sqlite.specs.Collation.TheVariants.{Binary}
@@ -26,11 +25,11 @@ use Rattle.sqlite.specs.Command.{Command}
 use Rattle.sqlite.specs.Command.TheVariants.{Select}
 use Rattle.sqlite.specs.Effect.{Database, RefusesToRead}
 use Rattle.sqlite.specs.Listing.{understood, reads_listing}
-use Rattle.sqlite.specs.Order.{Row, column, value_cmp}
+use Rattle.sqlite.specs.Order.{Row, column}
 use Rattle.sqlite.specs.Program.{overlay}
 use Rattle.sqlite.specs.Query.{Query, inner, end, IsAnswer, output, page, Output, output_cmp}
 use Rattle.sqlite.specs.State.{State, Shown, Fails, FailsToQuery, IsUnchanged}
-use Rattle.sqlite.specs.Term.{Env, Term, lit, col}
+use Rattle.sqlite.specs.Term.{Env, lit, col}
 use Rattle.sqlite.specs.Tree.{Trees, IsAscending}
 use Rattle.sqlite.proofs.Callers.{IsPlain, command_of, reads_as}
 use Rattle.sqlite_keyed.proofs.SortLemmas.{sorted_unique}
@@ -168,10 +167,10 @@ select_serves old new rows list has settled autocommit unlimited limit h read =
       unlimited = limit ∙ unlimited;
       below = subst (λ (d : Database). Below (1 + length list) (d.trees 0)) (sym same.0.now_is) (below_shown (1 + length list) (old.now.trees 0) each);
       numbered = λ told is.
-      let there : list_in old.now ≡ Some told = ap list_in (sym same.0.now_is) ∙ is in
-      let both : Some list ≡ Some told = sym read ∙ (ap (records_from 1) (all_shown old.now.trees told rows there a) ∙ there) in
-      let one : list ≡ told = cc in
-      ap (λ l. 1 + length l) one;
+          let there : list_in old.now ≡ Some told = ap list_in (sym same.0.now_is) ∙ is in
+          let both : Some list ≡ Some told = sym read ∙ (ap (records_from 1) (all_shown old.now.trees told rows there a) ∙ there) in
+          let one : list ≡ told = cc in
+          ap (λ l. 1 + length l) one;
     }
 
 -- where the table's rows are records, they are what the query reads
@@ -181,7 +180,6 @@ select_reads old new rows list has h there = ap (records_from 1) (all_shown old.
 -- the query leaves the database as it was
 pub select_keeps : (old new : State) (rows : List Row) → old.now.schema ≡ kept_schema → Shown select_text [] old new rows → IsUnchanged old new
 select_keeps old new rows has = shown_same select_text [] old new kept_schema has select_command select_is.0 select_plain select_called rows
-
 
 -- the query leaves what a keeper serves
 pub queries_stay : (old new : State) (n : ℕ) → (HasCleanDisk old → IsTrue old.is_open → Serves old n) → doubt old.is_clean ≤ doubt new.is_clean → new.step_limit ≡ old.step_limit → HasCleanDisk new → Queries old new → Stays old new n
@@ -209,8 +207,8 @@ queries_stay old new n start falls limit clean (inr (e, h)) =
     record {
       serves = λ up. (left up).0;
       told = λ list is.
-      let t = told_means new list is in
-      told_where old was (refused_open select_text [] old new e h t.1) ∙ (ap list_in (sym (left t.1).1) ∙ t.2);
+          let t = told_means new list is in
+          told_where old was (refused_open select_text [] old new e h t.1) ∙ (ap list_in (sym (left t.1).1) ∙ t.2);
     }
 
 -- what is read is what is told

@@ -1,17 +1,14 @@
 -- That only the store can refuse the statements, where the table is there.
-use Rattle.std.proofs.Common.{◌≡◌, ◌≢◌, ◌⊎◌, inl, inr, ℕ, ◌+◌, ◌<◌, ◌≤◌, ◌^◌, zero, suc, ℤ, pos, negsuc, List, [], ◌∷◌, ◌++◌, map, codes, slice_get, length, Bool, true, false, cond, Option, Some, None, Ok, Err, Result, IfOk, OnOk, All, IsTrue, refl, sym, ap, subst, ◌∙◌, arith}
-use Rattle.std.specs.declared.cmp.Ordering.TheVariants.{Less}
-use Rattle.std.proofs.lemmas.Bool.Decides.{nat_tests}
-use Rattle.std.proofs.lemmas.Int.{ints}
+use Rattle.std.proofs.Common.{◌≡◌, ◌≢◌, inl, inr, ℕ, ◌<◌, ◌^◌, zero, suc, pos, List, [], ◌∷◌, length, Bool, true, false, Option, Some, None, Err, All, refl, sym, ap, subst, ◌∙◌, arith}
 use Rattle.std.proofs.lemmas.Grind.{common_steps}
 use Rattle.ra_base.specs.TokenGrammar.{IsToken}
 use Rattle.ra_keep.specs.declared.record.Record.{Record}
-use Rattle.ra_keep_sql.specs.KeptTable.{kept_table, kept_schema, no_schema, kind_number, stored, inserted, Below, create_text, insert_text, select_text}
+use Rattle.ra_keep_sql.specs.KeptTable.{kept_table, kept_schema, kind_number, stored, inserted, Below}
 use Rattle.sqlite.specs.declared.types.Value.{Value}
-use Rattle.sqlite.specs.declared.types.Value.TheVariants.{Null, Int, Text}
+use Rattle.sqlite.specs.declared.types.Value.TheVariants.{Int}
 use Rattle.sqlite.specs.declared.error.Error.{Error}
-use Rattle.sqlite.specs.Does.{Tally, Does, Concludes, due}
-use Rattle.sqlite.specs.Rows.{Task, Then, Sourced, Inserts, Written}
+use Rattle.sqlite.specs.Does.{Does, Concludes, due}
+use Rattle.sqlite.specs.Rows.{Task, Then, Sourced, Inserts}
 use Rattle.sqlite.specs.Source.TheVariants.{Values}
 use Rattle.sqlite.specs.View.{IsStorableRow}
 use Rattle.std.specs.Int.{bit_at}
@@ -24,13 +21,13 @@ use Rattle.sqlite_schema.specs.Rules.{table_reals, Refers}
 use Rattle.sqlite_schema.specs.declared.schema.Among.{Among}
 use Rattle.sqlite_rules.specs.Action.{Writes, Leads}
 use Rattle.std.proofs.Common.{length-append}
-use Rattle.sqlite.specs.Edit.{Edit, edit_of, edited, IsRefused, left_by, are_fresh, is_taken}
+use Rattle.sqlite.specs.Edit.{Edit, edit_of, edited, IsRefused, is_taken}
 use Rattle.sqlite.specs.Effect.{Database}
 use Rattle.sqlite.specs.Ops.{fits_i64}
-use Rattle.sqlite.specs.Order.{Row, value_cmp}
+use Rattle.sqlite.specs.Order.{Row}
 use Rattle.sqlite.specs.Rowids.TheVariants.{Chosen}
 use Rattle.sqlite.specs.State.{State, mode_of}
-use Rattle.sqlite.specs.Tree.{Trees, rowid, put_row}
+use Rattle.sqlite.specs.Tree.{Trees}
 use Rattle.sqlite_rules.specs.declared.error.Refusal.{Refusal}
 use Rattle.sqlite_rules.specs.declared.error.Refusal.TheVariants.{Violates, Mismatch, NoRowid, BadReference, TooDeep}
 use Rattle.sqlite_schema.specs.declared.schema.Constraint.TheVariants.{Datatype, NotNull, Check, PrimaryKey, Unique, ForeignKey}
@@ -78,13 +75,15 @@ storable : (n : ℕ) (r : Record) → IsToken r.key.token → IsStorableRow (tab
 storable n r token =
     let P = λ (v : Value). NotNan (number v) in
     let numbers : All P (stored n r) =
-    All-from_recursion P (stored n r) (whole n, (zero_is, (whole (kind_number r.key.kind), (zero_is, (whole r.epoch, (whole r.at, tt)))))) in
-    (record {
-    typed = λ c real. absurd (unreal c real);
-    columns = (omega arith, omega arith);
-    numbers = numbers;
-    short = omega (arith, token.most);
-  }, omega arith)
+    All-from_recursion P (stored n r) (whole n, (zero_is, (whole (kind_number r.key.kind), (zero_is, (whole r.epoch, (whole r.at, tt)))))) in (
+      record {
+        typed = λ c real. absurd (unreal c real);
+        columns = (omega arith, omega arith);
+        numbers = numbers;
+        short = omega (arith, token.most);
+      },
+      omega arith,
+    )
 
 unwritten : (s : State) (db : Trees) (n : ℕ) (r : Record) (why : Option Refusal) → Below n (db 0) → n < 2 ^ 63 → IsToken r.key.token → ¬ Writes kept_schema (mode_of s).keys db (edit_for db n r) (Err why)
 unwritten s db n r why below fits token (inl h) = unrefused s db n r h.0 below fits h.1

@@ -1,7 +1,7 @@
 -- Rows that are records.
-use Rattle.std.proofs.Common.{◌≡◌, ◌≢◌, ◌+◌, ◌<◌, ◌≤◌, ◌^◌, ℕ, zero, suc, pos, negsuc, List, [], ◌∷◌, ◌++◌, map, length, Bool, true, false, cond, eqb, nat_lt, Option, Some, None, Ok, Err, Result, OnOk, refl, sym, ap, subst, ◌∙◌, arith, not, position, get_or, slice_index}
+use Rattle.std.proofs.Common.{◌≡◌, ◌≢◌, ◌+◌, ◌<◌, ◌≤◌, ◌^◌, ℕ, zero, suc, pos, negsuc, List, [], ◌∷◌, ◌++◌, map, length, Bool, true, false, cond, eqb, nat_lt, Option, Some, None, Ok, Err, Result, OnOk, refl, sym, ap, subst, ◌∙◌, arith, not, position, slice_index}
 use Rattle.std.specs.List.{AllPass}
-use Rattle.std.specs.Str.{IsAscii, IsUtf8}
+use Rattle.std.specs.Str.{IsUtf8}
 use Rattle.std.proofs.lemmas.Str.{IsUtf8-from_ascii}
 use Rattle.std.proofs.lemmas.Bool.Decides.{nat_tests}
 use Rattle.std.proofs.lemmas.Int.{ints}
@@ -11,7 +11,7 @@ use Rattle.ra_base.specs.declared.token.TokenFault.TheVariants.{Empty, TooLong}
 use Rattle.std.proofs.lemmas.Grind.{common_steps}
 use Rattle.ra_base.specs.declared.kind.Kind.{Kind}
 use Rattle.ra_base.specs.declared.kind.Kind.TheVariants.{Management, ExtensionHost, Tunnel}
-use Rattle.ra_base.specs.TokenGrammar.{IsToken, token_of, is_visible, unless_bad}
+use Rattle.ra_base.specs.TokenGrammar.{IsToken, is_visible, unless_bad}
 use Rattle.ra_base.proofs.TokenLemmas.{token_of-IsToken, AllPass-from_position}
 use Rattle.std.specs.Prelude.{All}
 use Rattle.std.proofs.lemmas.List.Elements.{All-nil, All-cons}

@@ -1,18 +1,16 @@
 -- What the statement that adds a record does, and that only the store can refuse it.
-use Rattle.std.proofs.Common.{◌≡◌, ◌⊎◌, inl, inr, ℕ, ◌+◌, ◌<◌, ◌≤◌, ◌^◌, zero, suc, ℤ, pos, negsuc, List, [], ◌∷◌, ◌++◌, map, codes, slice_get, length, Bool, true, false, cond, Option, Some, None, Ok, Err, Result, IfOk, OnOk, All, IsTrue, refl, sym, ap, subst, ◌∙◌, arith}
-use Rattle.std.specs.declared.cmp.Ordering.TheVariants.{Less}
+use Rattle.std.proofs.Common.{◌≡◌, ◌⊎◌, inl, inr, ℕ, ℤ, pos, List, [], ◌∷◌, ◌++◌, Bool, true, false, cond, None, Ok, Err, Result, refl, ap, subst, ◌∙◌}
 use Rattle.ra_keep.specs.declared.record.Record.{Record}
-use Rattle.ra_keep_sql.specs.KeptTable.{kept_table, kept_schema, no_schema, kind_number, stored, inserted, Below, create_text, insert_text, select_text}
+use Rattle.ra_keep_sql.specs.KeptTable.{kept_table, kept_schema, kind_number, stored, inserted, Below, insert_text}
 use Rattle.sqlite.specs.declared.types.Value.{Value}
-use Rattle.sqlite.specs.declared.types.Value.TheVariants.{Null, Int, Text}
-use Rattle.sqlite.specs.declared.error.Error.{Error}
+use Rattle.sqlite.specs.declared.types.Value.TheVariants.{Null, Int}
 use Rattle.sqlite.specs.Cast.{cast}
-use Rattle.sqlite.specs.Command.TheVariants.{Nothing, Insert, Select, CreateTable}
+use Rattle.sqlite.specs.Command.TheVariants.{Insert}
 use Rattle.sqlite.specs.Does.{Tally, Does}
 use Rattle.sqlite.specs.Edit.{Edit, edit_of, edited}
 use Rattle.sqlite.specs.Effect.{Database}
 use Rattle.sqlite.specs.Kind.TheVariants.{Integer}
-use Rattle.sqlite.specs.Listing.{understood, reads_listing}
+use Rattle.sqlite.specs.Listing.{understood}
 use Rattle.sqlite.specs.Ops.{unary}
 use Rattle.sqlite.specs.Order.{Row, value_cmp}
 use Rattle.sqlite.specs.Rowids.TheVariants.{Chosen}
@@ -21,7 +19,7 @@ use Rattle.sqlite.specs.Source.TheVariants.{Values}
 use Rattle.sqlite.specs.State.{State, mode_of}
 use Rattle.sqlite.specs.Term.{Term, lit, col}
 use Rattle.sqlite.specs.Tree.{Trees, rowid, put_row}
-use Rattle.sqlite.proofs.Callers.{IsPlain, command_of, statement_of, one_step}
+use Rattle.sqlite.proofs.Callers.{IsPlain, command_of, one_step}
 use Rattle.ra_keep_sql.proofs.RowLemmas.{below_is}
 use Rattle.sqlite_tied.specs.Compute.{everything}
 

@@ -1,5 +1,5 @@
 -- The rows of a query as records.
-use Rattle.std.specs.Prelude.{◌≡◌, ℕ, ◌+◌, ◌^◌, ◌==◌, nat_lt, ℤ, pos, negsuc, List, [], ◌∷◌, map, Option, Some, None, if◌then◌else◌, Result, Ok, Err}
+use Rattle.std.specs.Prelude.{ℕ, ◌+◌, ◌^◌, ◌==◌, nat_lt, pos, negsuc, List, [], ◌∷◌, map, Option, Some, None, if◌then◌else◌, Result, Ok, Err}
 use Rattle.ra_base.specs.declared.kind.Kind.{Kind}
 use Rattle.ra_base.specs.declared.kind.Kind.TheVariants.{Management, ExtensionHost}
 use Rattle.ra_base.specs.TokenGrammar.{token_of}
@@ -48,9 +48,9 @@ moment_in v = and_then (λ at. if nat_lt at (2 ^ 53) then Some at else None) (nu
 abbrev pub record_in : ℕ → Row → Option Record
 record_in n row =
     and_then (λ number. if number == n then
-      and_then (λ kind. and_then (λ token. and_then (λ epoch. and_then (λ at. Some (record { key = record { kind = kind; token = token }; epoch = epoch; at = at }))
-        (moment_in (column row 4))) (number_in (column row 3))) (token_in (column row 2))) (kind_in (column row 1))
-      else None) (number_in (column row 0))
+    and_then (λ kind. and_then (λ token. and_then (λ epoch. and_then (λ at. Some (record { key = record { kind = kind; token = token }; epoch = epoch; at = at }))
+    (moment_in (column row 4))) (number_in (column row 3))) (token_in (column row 2))) (kind_in (column row 1))
+    else None) (number_in (column row 0))
 
 abbrev pub first_bad : ℕ → Option Record → Option ℕ → Option ℕ
 first_bad n (Some r) later = later

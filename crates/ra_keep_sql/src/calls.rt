@@ -57,10 +57,7 @@ pub fn add<S: Alter>(conn: &mut Connection<S>, n: u64, kept: &Record) -> Result<
 }
 
 /// The records that the query reads.
-fn read<S: Alter>(
-    alloc: Global,
-    conn: &mut Connection<S>,
-) -> Result<Vec<Record>, OpenFault>
+fn read<S: Alter>(alloc: Global, conn: &mut Connection<S>) -> Result<Vec<Record>, OpenFault>
     ensures read { IfOk result (λ records. HasCleanDisk (state S.Store conn.new) → (rows : List Row) × Shown select_text [] (state S.Store conn.old) (state S.Store conn.new) rows × (records_from 1 rows ≡ Some records.items)) }
     ensures kinds { IfOk result (λ records. All IsOfNoTunnel records.items) }
     ensures bad { (row : _) → result ≡ Err (faults.BadRow row) → HasCleanDisk (state S.Store conn.new) → (rows : List Row) × Shown select_text [] (state S.Store conn.old) (state S.Store conn.new) rows × (bad_from 1 rows ≡ Some row) }
@@ -81,10 +78,7 @@ fn read<S: Alter>(
 }
 
 /// The records that the table has.
-pub fn read_all<S: Alter>(
-    alloc: Global,
-    conn: &mut Connection<S>,
-) -> Result<Vec<Record>, KeepFault>
+pub fn read_all<S: Alter>(alloc: Global, conn: &mut Connection<S>) -> Result<Vec<Record>, KeepFault>
     ensures records { IfOk result (λ records. (n : ℕ) → (HasCleanDisk (state S.Store conn.old) → IsTrue (state S.Store conn.old).is_open → Serves (state S.Store conn.old) n)
         → (list : List Kept) → told_in (state S.Store conn.new) ≡ Some list → records.items ≡ list) }
     ensures kinds { IfOk result (λ records. All IsOfNoTunnel records.items) }

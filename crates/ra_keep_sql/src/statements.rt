@@ -76,5 +76,8 @@ pub fn select<S: Alter>(conn: &mut Connection<S>) -> Result<Vec<Row>, Error>
     ensures refused { HasCleanDisk (state S.Store conn.new) → IfErr result (FailsToQuery select_text [] (state S.Store conn.old) (state S.Store conn.new)) }
     ensures survives { Survives (state S.Store conn.old) (state S.Store conn.new) (CommitsShowing select_text [] (state S.Store conn.old)) }
 {
-    conn.query_all("SELECT n, kind, token, epoch, moment FROM kept ORDER BY n", &[])
+    conn.query_all(
+        "SELECT n, kind, token, epoch, moment FROM kept ORDER BY n",
+        &[],
+    )
 }

@@ -1,4 +1,3 @@
-use Rattle.std.proofs.Common.{◌≡◌, ◌≢◌, arith, true, false}
 use Rattle.sqlite.specs.Held.{state}
 use Rattle.ra_keep_sql.proofs.AddLemmas.{Settles, adds_ok, stays_err, failed_by, crash_leaves, crash_keeps}
 use Rattle.ra_keep_sql.proofs.calls.add.Goals as goal

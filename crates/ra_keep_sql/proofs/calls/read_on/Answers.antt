@@ -1,4 +1,4 @@
-use Rattle.std.proofs.Common.{◌≡◌, ◌+◌, length, refl, sym, subst, ap, Err, rules, arith}
+use Rattle.std.proofs.Common.{◌≡◌, ◌+◌, length, subst, ap, Err, rules}
 use Rattle.ra_keep_sql.specs.Keepers.{IsServed}
 use Rattle.sqlite.specs.Held.{state}
 use Rattle.ra_keep_sql.proofs.OpeningLemmas.{read_served, read_refused}

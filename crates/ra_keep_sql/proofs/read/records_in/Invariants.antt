@@ -1,4 +1,4 @@
-use Rattle.std.proofs.Common.{◌≡◌, ◌+◌, ◌++◌, Some, List, length, drop, option_map}
+use Rattle.std.proofs.Common.{◌≡◌, ◌+◌, ◌++◌, length, drop, option_map}
 use Rattle.ra_keep_sql.specs.KeptRows.{records_from, bad_from}
 use Rattle.ra_keep_sql.proofs.read.records_in.Given as goal
 

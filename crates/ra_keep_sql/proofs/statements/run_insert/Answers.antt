@@ -1,6 +1,5 @@
 use Rattle.std.proofs.lemmas.Int.{to_z-of_z}
 use Rattle.std.proofs.Common.{w64}
-
 use Rattle.ra_keep_sql.proofs.statements.run_insert.Goals as goal
 
 pub returns-clause-runs : goal.returns-clause-runs

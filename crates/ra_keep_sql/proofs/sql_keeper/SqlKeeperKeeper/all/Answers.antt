@@ -1,4 +1,3 @@
-use Rattle.std.proofs.Common.{arith}
 use Rattle.sqlite.specs.Held.{state}
 use Rattle.ra_keep_sql.proofs.KeeperLemmas.{told_means}
 use Rattle.ra_keep_sql.proofs.sql_keeper.SqlKeeperKeeper.all.Goals as goal
