@@ -1,10 +1,9 @@
 -- An audit one record further.
-use Rattle.std.proofs.Common.{◌≡◌, ◌≢◌, ℕ, ◌+◌, ◌<◌, zero, suc, List, [], ◌∷◌, ◌++◌, length, take, drop, get_or, Bool, true, false, cond, eqb, refl, sym, ap, subst, ◌∙◌, arith, append_assoc}
+use Rattle.std.proofs.Common.{◌≡◌, ◌≢◌, ℕ, ◌+◌, ◌<◌, suc, List, [], ◌∷◌, ◌++◌, length, take, drop, get_or, Bool, true, false, cond, refl, sym, ap, subst, ◌∙◌, arith}
 use Rattle.std.proofs.Math.Seq.{drop-cons, take-suc}
 use Rattle.std.proofs.Common.{length-take-le}
 use Rattle.std.proofs.lemmas.List.{take_all, drop_all}
 use Rattle.std.proofs.lemmas.Grind.{common_steps}
-use Rattle.std.specs.List.{count_by}
 use Rattle.std.specs.BTreeMap.{is_at}
 use Rattle.ra_base.specs.Keys.{key_cmp}
 use Rattle.ra_base.specs.declared.key.Key.{Key}
@@ -61,9 +60,9 @@ same_key a b h = exact_keys a b (is_equal (key_cmp a b) h)
 pub count_more : (list : List Record) (i : ℕ) (d : Record) (key : Key) → i < length list
     → count_of key (take (i + 1) list) ≡ cond (is_at (key_cmp (get_or list i d).key) key) (count_of key (take i list) + 1) (count_of key (take i list))
 count_more list i d key h = elim (cases_Bool (is_at (key_cmp (get_or list i d).key) key)) [
-    | inl same ↦ count_by_more_yes (λ r. is_at (key_cmp r.key) key) list i d h same ∙ (rw same refl)
-    | inr other ↦ count_by_more_no (λ r. is_at (key_cmp r.key) key) list i d h other ∙ (rw other refl)
-  ]
+  | inl same ↦ count_by_more_yes (λ r. is_at (key_cmp r.key) key) list i d h same ∙ (rw same refl)
+  | inr other ↦ count_by_more_no (λ r. is_at (key_cmp r.key) key) list i d h other ∙ (rw other refl)
+]
 
 -- what the map of counts has after one more record of a session
 pub counts_more : (b : Bool) (n : ℕ) (old : Option ℕ) → (b ≡ true → n ≡ unwrap_or old 0 + 1) → unwrap_or (cond b (Some n) old) 0 ≡ cond b (unwrap_or old 0 + 1) (unwrap_or old 0)

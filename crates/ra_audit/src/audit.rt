@@ -54,7 +54,8 @@ fn print<K: Sink>(alloc: Global, sink: &mut K, records: &[Record]) -> u8
     ensures due { result ≡ 0 → AreDue records.now }
     ensures wrong { result ≡ 5 → ¬ AreDue records.now }
     ensures stopped { result ≡ 4 → Rose (K.faults sink.old) (K.faults sink.new) }
-    ensures front { (result ≡ 4) ⊎ (result ≡ 6) → AppendsFront (K.taken sink.old) (K.taken sink.new) (audit records.now) }
+    ensures front { result ≡ 4 → AppendsFront (K.taken sink.old) (K.taken sink.new) (audit records.now) }
+    ensures memory { result ≡ 6 → K.taken sink.new ≡ K.taken sink.old }
     ensures statuses { (result ≡ 0) ⊎ ((result ≡ 5) ⊎ ((result ≡ 4) ⊎ (result ≡ 6))) }
 {
     let mut text = Vec::new(alloc);
@@ -73,7 +74,8 @@ pub fn audit_run<R: Keeper, K: Sink>(alloc: Global, keeper: &mut R, sink: &mut K
     ensures wrong { result ≡ 5 → (list : List Kept) → R.told keeper.new ≡ Some list → ¬ AreDue list }
     ensures refused { result ≡ 10 → Appends (K.taken sink.old) (K.taken sink.new) refused_line × kept.Rose (R.faults keeper.old) (R.faults keeper.new) }
     ensures stopped { result ≡ 4 → Rose (K.faults sink.old) (K.faults sink.new) }
-    ensures front { (result ≡ 4) ⊎ (result ≡ 6) → (list : List Kept) → R.told keeper.new ≡ Some list
+    ensures memory { result ≡ 6 → K.taken sink.new ≡ K.taken sink.old }
+    ensures front { result ≡ 4 → (list : List Kept) → R.told keeper.new ≡ Some list
         → AppendsFront (K.taken sink.old) (K.taken sink.new) (audit list) ⊎ (AppendsFront (K.taken sink.old) (K.taken sink.new) refused_line × kept.Rose (R.faults keeper.old) (R.faults keeper.new)) }
     ensures same { kept.TellsOnly (R.told keeper.old) (R.told keeper.new) }
     ensures statuses { (result ≡ 0) ⊎ ((result ≡ 5) ⊎ ((result ≡ 10) ⊎ ((result ≡ 4) ⊎ (result ≡ 6)))) }

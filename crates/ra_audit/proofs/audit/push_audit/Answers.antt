@@ -1,7 +1,7 @@
-use Rattle.std.proofs.Common.{◌≡◌, ◌≢◌, ◌+◌, ◌++◌, ◌∷◌, [], ◌<◌, take, drop, length, get_or, refl, sym, ap, subst, ◌∙◌, arith, rules, append_assoc, cond, unwrap_or}
-use Rattle.std.specs.BTreeMap.{get, is_at}
+use Rattle.std.proofs.Common.{◌≡◌, ◌≢◌, ◌+◌, ◌++◌, ◌<◌, take, drop, length, get_or, refl, sym, ap, ◌∙◌, arith, rules, append_assoc, cond}
+use Rattle.std.specs.BTreeMap.{is_at}
 use Rattle.ra_base.specs.Keys.{key_cmp}
-use Rattle.ra_audit.specs.Audits.{count_of, due_epoch, audit_from, AreDueFrom, wrong_line, end_line, record_line}
+use Rattle.ra_audit.specs.Audits.{due_epoch, audit_from, wrong_line, end_line, record_line}
 use Rattle.ra_audit.proofs.AuditLemmas.{due_step, wrong_step, due_forth, due_back, counts_step, end_step, end_due}
 use Rattle.ra_audit.proofs.audit.push_audit.Goals as goal
 
@@ -44,8 +44,8 @@ loop-kept-preserved c =
       number = omega (arith, c.loop-kept.invariant.number);
       counts = λ key. c.in_ok-due.ensures.counts key ∙ (ap (λ n. cond (is_at (key_cmp r.key) key) (n + 1) n) (c.loop-kept.invariant.counts key) ∙ sym (counts_step list i r here below key));
       text = c.loop-kept.invariant.text ∙ (ap (λ t. c.loop-kept.text.items ++ t) (due_step list i r here below same)
-      ∙ (sym (append_assoc c.loop-kept.text.items (record_line (i + 1) r) (audit_from (take (i + 1) list) (drop (i + 1) list)))
-      ∙ ap (λ l. l ++ audit_from (take (i + 1) list) (drop (i + 1) list)) (ap (λ k. c.loop-kept.text.items ++ record_line (k + 1) r) (sym c.loop-kept.invariant.number) ∙ sym c.in_ok-push_record.ensures)));
+          ∙ (sym (append_assoc c.loop-kept.text.items (record_line (i + 1) r) (audit_from (take (i + 1) list) (drop (i + 1) list)))
+          ∙ ap (λ l. l ++ audit_from (take (i + 1) list) (drop (i + 1) list)) (ap (λ k. c.loop-kept.text.items ++ record_line (k + 1) r) (sym c.loop-kept.invariant.number) ∙ sym c.in_ok-push_record.ensures)));
       due = λ more. c.loop-kept.invariant.due (due_forth list i r here below same more);
       wrong = λ all. (due_back list i r here below (c.loop-kept.invariant.wrong all)).1;
     }

@@ -1,4 +1,4 @@
-use Rattle.std.proofs.Common.{◌≡◌, ◌++◌, ◌≤◌, ◌+◌, take, drop, length, ℕ, [], unwrap_or}
+use Rattle.std.proofs.Common.{◌≡◌, ◌++◌, take, drop, [], unwrap_or}
 use Rattle.std.specs.BTreeMap.{get}
 use Rattle.ra_base.specs.Keys.{key_cmp}
 use Rattle.ra_base.specs.declared.key.Key.{Key}

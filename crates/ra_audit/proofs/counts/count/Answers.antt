@@ -1,4 +1,4 @@
-use Rattle.std.proofs.Common.{◌≡◌, ◌+◌, Some, cond, unwrap_or, sym, ap, ◌∙◌, rules, true}
+use Rattle.std.proofs.Common.{◌≡◌, ◌+◌, Some, cond, unwrap_or, ap, ◌∙◌, rules}
 use Rattle.std.specs.BTreeMap.{get, is_at}
 use Rattle.ra_base.specs.Keys.{key_cmp}
 use Rattle.ra_base.specs.declared.key.Key.{Key}
