@@ -1,0 +1,10 @@
+pub mod RowLemmas
+pub mod StatementLemmas
+pub mod RefusalLemmas
+pub mod CallLemmas
+pub mod KeeperLemmas
+pub mod ReadLemmas
+pub mod MadeLemmas
+pub mod OpenLemmas
+pub mod AddLemmas
+pub mod OpeningLemmas

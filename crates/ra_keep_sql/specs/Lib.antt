@@ -1,0 +1,3 @@
+pub mod KeptTable
+pub mod KeptRows
+pub mod Keepers
