@@ -35,8 +35,8 @@ fn join<N: Link, T: Link>(
 }
 
 /// Joins a client to a target: a link to the target is opened, the client is sent `ok` and the target `rest`, and from there on what
-/// comes from each goes to the other, until one of them ends or fails. Both together are asked `turns` times at most, in turn and the
-/// client first, for as many bytes as the buffer has. The link to the target is given back.
+/// comes from each goes to the other, until one of them ends or fails, or both together were asked `turns` times, in turn and the
+/// client first. The link to the target is given back.
 ///
 /// It answers None where no link could be opened. Nothing was sent then, and the client was not asked.
 pub fn join_target<N: Link, D: Dial>(

@@ -76,11 +76,9 @@ pub(crate) fn one_turn<N: Link, T: Link>(
     }
 }
 
-/// Asks both links in turn, the client first, and sends each piece whole on the other before the next is asked for, until one of them
-/// ends or fails.
-///
-/// Both together are asked `turns` times at most, for as many bytes as the buffer has. All that was taken of one side was sent on the
-/// other where a side ended or the turns are spent, and else a prefix of it.
+/// Asks both links in turn, the client first, and sends what each gives on the other, until one of them ends or fails, or both
+/// together were asked `turns` times. All that was taken of one side was sent on the other where a side ended or the turns are spent,
+/// and else a prefix of it.
 pub fn pipe<N: Link, T: Link>(
     client: &mut N,
     target: &mut T,

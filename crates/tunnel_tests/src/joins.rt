@@ -50,7 +50,7 @@ fn both_are_sent_what_the_other_gave(rt: HostRuntime) -> Result<(), Fail> {
     let end = joined(&mut client, &mut dial, 10);
     let by = TunnelSide::Client;
     assert_eq!(rt; end, Some(PipeEnd::Closed { by }));
-    assert!(rt; client.sent() == b"yesok");
+    assert!(rt; client.sent() == b"yesok".as_slice());
     assert!(rt; was_sent(&dial, b"resthi"));
     Ok(())
 }
@@ -86,6 +86,6 @@ fn turns_are_of_both_together(rt: HostRuntime) -> Result<(), Fail> {
         joined(&mut client, &mut dial, 2),
         Some(PipeEnd::TurnsSpent)
     );
-    assert!(rt; client.sent() == b"yesok");
+    assert!(rt; client.sent() == b"yesok".as_slice());
     Ok(())
 }
