@@ -4,12 +4,12 @@
 //! decided here.
 #![tactic(auto)]
 
-pub mod calls;
-pub mod open_fault;
-pub mod read;
-pub mod shape;
-pub mod sql_keeper;
-pub mod statements;
+mod calls;
+mod open_fault;
+mod read;
+mod shape;
+mod sql_keeper;
+mod statements;
 
 pub use open_fault::OpenFault;
 pub use sql_keeper::{Refused, SqlKeeper};
