@@ -1,0 +1,5 @@
+pub mod Steps
+pub mod Accounted
+pub mod Places
+pub mod EndFaultLemmas
+pub mod Sums
