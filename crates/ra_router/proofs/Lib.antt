@@ -1,0 +1,9 @@
+pub mod Placed
+pub mod Answered
+pub mod Ranks
+pub mod Settled
+pub mod Handed
+pub mod Nexts
+pub mod Refused
+pub mod Bytes
+pub mod Replied
