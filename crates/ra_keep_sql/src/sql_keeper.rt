@@ -65,6 +65,19 @@ impl<S: Alter + Drop> Drop for Refused<S> {
     }
 }
 
+impl<S: Alter> Refused<S> {
+    /// Gives the connection back.
+    pub fn into_connection(self) -> Connection<S>
+        ensures { result ≡ self.connection }
+    {
+        let Refused {
+            fault: _,
+            connection,
+        } = self;
+        connection
+    }
+}
+
 impl<S: Alter> SqlKeeper<S> {
     ghost use Rattle.ra_keep_sql.specs.Keepers.{told_in, Adopts, IsRefused};
 
