@@ -119,7 +119,7 @@ fn other_words_are_no_command(rt: HostRuntime) -> Result<(), Fail> {
     assert_eq!(rt; run_plain(alloc, &[], &mut source, &mut sink), 2);
     assert_eq!(rt;
         sink.written(),
-        b"usage: agent receive|replay|grand|soak START STEPS|serve|attach\n".as_slice()
+        b"usage: agent receive|replay|grand|soak START STEPS|serve|attach|audit PATH\n".as_slice()
     );
     Ok(())
 }

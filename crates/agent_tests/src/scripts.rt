@@ -116,25 +116,25 @@ const SOAKS: [(&str, &str, &[u8], u8); 6] = [
     (
         "18446744073709551616",
         "1",
-        b"usage: agent receive|replay|grand|soak START STEPS|serve|attach\n",
+        b"usage: agent receive|replay|grand|soak START STEPS|serve|attach|audit PATH\n",
         2,
     ),
     (
         "0",
         "100001",
-        b"usage: agent receive|replay|grand|soak START STEPS|serve|attach\n",
+        b"usage: agent receive|replay|grand|soak START STEPS|serve|attach|audit PATH\n",
         2,
     ),
     (
         "01",
         "1",
-        b"usage: agent receive|replay|grand|soak START STEPS|serve|attach\n",
+        b"usage: agent receive|replay|grand|soak START STEPS|serve|attach|audit PATH\n",
         2,
     ),
     (
         "",
         "1",
-        b"usage: agent receive|replay|grand|soak START STEPS|serve|attach\n",
+        b"usage: agent receive|replay|grand|soak START STEPS|serve|attach|audit PATH\n",
         2,
     ),
 ];

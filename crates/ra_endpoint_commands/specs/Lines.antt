@@ -42,4 +42,4 @@ over_line = line (codes "refused: input over 1073741824 bytes")
 
 -- the words are no command
 abbrev pub usage_line : List ℕ
-usage_line = line (codes "usage: agent receive|replay|grand|soak START STEPS|serve|attach")
+usage_line = line (codes "usage: agent receive|replay|grand|soak START STEPS|serve|attach|audit PATH")

@@ -7,7 +7,8 @@ use ra_base::NoMemory;
 use std::alloc::Global;
 
 /// The line for words that are no command.
-pub const USAGE: &[u8; 64] = b"usage: agent receive|replay|grand|soak START STEPS|serve|attach\n";
+pub const USAGE: &[u8; 75] =
+    b"usage: agent receive|replay|grand|soak START STEPS|serve|attach|audit PATH\n";
 
 /// Adds bytes as lower-case hexadecimal digits, and none as a dash.
 pub fn push_hex(alloc: Global, text: &mut Vec<u8>, bytes: &[u8]) -> Result<(), NoMemory>

@@ -26,8 +26,7 @@ use std::alloc::Global;
 use std::sync::ledger::{Ledger, Share};
 use std::sync::{Arc, Mutex, Wait};
 
-/// One caller of a shared registry, with a receipt of each entry that its calls added, and its seats that are not spent. Another value
-/// in a public field is told apart at the end.
+/// One caller of a shared registry, with a receipt of each entry that its calls added, and its seats that are not spent.
 #[derive(Drop)]
 pub struct RegistryHandle<R: Wait, K: Keeper + Drop, X: SessionHandle, L: Ledger> {
     pub rt: R,

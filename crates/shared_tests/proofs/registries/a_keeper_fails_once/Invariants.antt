@@ -1,4 +1,0 @@
-use Rattle.shared_tests.proofs.registries.a_keeper_fails_once.Given as goal
-
-abbrev pub ghosts-faults_agree-L-Ledger : goal.ghosts-faults_agree-L-Ledger
-ghosts-faults_agree-L-Ledger g a = record { name = a.entries.name; parts = a.entries.parts }
