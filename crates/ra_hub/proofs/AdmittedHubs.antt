@@ -23,7 +23,8 @@ use Rattle.ra_registry.proofs.Epochs.{stays_closed}
 use Rattle.ra_registry.proofs.SameKeys.{same_key_is, same_key_other_way}
 use Rattle.ra_session.specs.Saying.{serving}
 use Rattle.ra_session.specs.Sessions.{Session}
-use Rattle.ra_session.specs.SessionStates.{SessionState}
+use Rattle.ra_hub.specs.declared.entry.SessionEntry.{SessionEntry}
+use Rattle.ra_hub.specs.Entries.{cause_in}
 use Rattle.ra_hub.specs.Faults.{of_admission}
 use Rattle.ra_hub.specs.Hubs.{Hub, row, at_key, enter, admitted, refused}
 use Rattle.ra_hub.specs.HubCalls.{Admits}
@@ -65,14 +66,14 @@ not_true : (b : Bool) → (b ≡ true → ⊥) → b ≡ false
 not_true true no_way = absurd (no_way refl)
 not_true false no_way = refl
 
-is_there : (o : Option SessionState) → o ≡ None → is_some o ≡ true → ⊥
+is_there : (o : Option SessionEntry) → o ≡ None → is_some o ≡ true → ⊥
 is_there None none there = cc
 is_there (Some x) none there = cc
 
 -- ---- requests that are not admitted
 
 -- the registry's answer to one
-pub not_admitted : (registry after : RegistryState) (sessions : BTreeMap Key SessionState) (keys : List Key) (h : Hub) (ask : Request) (now : ℕ) (fault : AdmitFault)
+pub not_admitted : (registry after : RegistryState) (sessions : BTreeMap Key SessionEntry) (keys : List Key) (h : Hub) (ask : Request) (now : ℕ) (fault : AdmitFault)
     → StandsForHub registry sessions keys h → registry_calls.Admits registry ask now (Err fault) after
     → Admits h ask now (Err (of_admission fault)) (StandsForHub after sessions keys)
 unfolding refused
@@ -99,7 +100,7 @@ again_there r ask now legal accepted again =
     (sym (rows_are r (key_of ask)) ∙ open_some (row_of r (key_of ask)) open_row)
 
 -- each session stays, and so do the keys that were admitted
-pub again_admitted : (registry after : RegistryState) (sessions : BTreeMap Key SessionState) (keys : List Key) (h : Hub) (ask : Request) (now : ℕ) (seat : Seat)
+pub again_admitted : (registry after : RegistryState) (sessions : BTreeMap Key SessionEntry) (keys : List Key) (h : Hub) (ask : Request) (now : ℕ) (seat : Seat)
     → StandsForHub registry sessions keys h → IsLegal registry → ask.reconnection ≡ true → registry_calls.Admits registry ask now (Ok seat) after
     → Admits h ask now (Ok seat) (StandsForHub after sessions keys)
 unfolding admitted
@@ -130,14 +131,14 @@ again_admitted registry after sessions keys h ask now seat stands legal again ad
     }
 
 -- a new session whose key has one is never admitted
-pub known_new : (registry after : RegistryState) (sessions : BTreeMap Key SessionState) (keys : List Key) (h : Hub) (ask : Request) (now : ℕ) (seat : Seat)
+pub known_new : (registry after : RegistryState) (sessions : BTreeMap Key SessionEntry) (keys : List Key) (h : Hub) (ask : Request) (now : ℕ) (seat : Seat)
     → StandsForHub registry sessions keys h → ask.reconnection ≡ false → is_some (get key_cmp sessions (key_of ask)) ≡ true
     → registry_calls.Admits registry ask now (Ok seat) after → {T : Type 0} → T
 known_new registry after sessions keys h ask now seat stands new there admits =
     no_row (row_of registry (key_of ask)) (accepted_new registry ask now admits.0 new)
     (ap (λ (r : RegistryState). is_some (row_of r (key_of ask))) stands.registry_is ∙ session_row registry sessions keys h (key_of ask) (found).0 stands (found).1)
   where
-    session_of : (o : Option SessionState) (p : Option Session) → is_some o ≡ true → BothStand o p → (s : Session) × (p ≡ Some s)
+    session_of : (o : Option SessionEntry) (p : Option Session) → is_some o ≡ true → BothStand o p → (s : Session) × (p ≡ Some s)
     session_of None p is both = cc
     session_of (Some x) None is both = absurd both
     session_of (Some x) (Some s) is both = (s, refl)
@@ -146,7 +147,7 @@ known_new registry after sessions keys h ask now seat stands new there admits =
     found = session_of (get key_cmp sessions (key_of ask)) (h.session (key_of ask)) there (stands.sessions_stand (key_of ask))
 
 -- either way
-pub known_admitted : (registry after : RegistryState) (sessions : BTreeMap Key SessionState) (keys : List Key) (h : Hub) (ask : Request) (now : ℕ) (seat : Seat)
+pub known_admitted : (registry after : RegistryState) (sessions : BTreeMap Key SessionEntry) (keys : List Key) (h : Hub) (ask : Request) (now : ℕ) (seat : Seat)
     → StandsForHub registry sessions keys h → IsLegal registry → (ask.reconnection || is_some (get key_cmp sessions (key_of ask))) ≡ true
     → registry_calls.Admits registry ask now (Ok seat) after
     → Admits h ask now (Ok seat) (StandsForHub after sessions keys)
@@ -161,7 +162,7 @@ known_admitted registry after sessions keys h ask now seat stands legal known ad
 -- ---- new sessions
 
 -- a session that was added and taken out again
-pub undone : (old between new : BTreeMap Key SessionState) (key : Key) (now : ℕ) → get key_cmp old key ≡ None → AddsSession old between key now
+pub undone : (old between new : BTreeMap Key SessionEntry) (key : Key) (now : ℕ) → get key_cmp old key ≡ None → AddsSession old between key now
     → RemovesSession between new key → SameSessions old new
 undone old between new key now none adds removes other = removes other ∙ here (same_key key other) refl
   where
@@ -169,7 +170,7 @@ undone old between new key now none adds removes other = removes other ∙ here 
     here true same = sym none ∙ ap (λ (k : Key). get key_cmp old k) (same_key_is key other same)
     here false apart = adds.2 other ∙ ap (λ (b : Bool). cond b (Some adds.0) (get key_cmp old other)) apart
 
-pub same_hub : (registry : RegistryState) (old new : BTreeMap Key SessionState) (keys : List Key) (h : Hub) → SameSessions old new
+pub same_hub : (registry : RegistryState) (old new : BTreeMap Key SessionEntry) (keys : List Key) (h : Hub) → SameSessions old new
     → StandsForHub registry old keys h → StandsForHub registry new keys h
 same_hub registry old new keys h same stands = record {
   registry_is = stands.registry_is;
@@ -179,9 +180,9 @@ same_hub registry old new keys h same stands = record {
 }
   where
     after : SessionsStand new h.session
-    after key = subst (λ (o : Option SessionState). BothStand o (h.session key)) (sym (same key)) (stands.sessions_stand key)
+    after key = subst (λ (o : Option SessionEntry). BothStand o (h.session key)) (sym (same key)) (stands.sessions_stand key)
 
-pub new_admitted : (registry after : RegistryState) (old between : BTreeMap Key SessionState) (keys : List Key) (h : Hub) (ask : Request) (now : ℕ) (seat : Seat)
+pub new_admitted : (registry after : RegistryState) (old between : BTreeMap Key SessionEntry) (keys : List Key) (h : Hub) (ask : Request) (now : ℕ) (seat : Seat)
     → StandsForHub registry old keys h → ask.reconnection ≡ false → get key_cmp old (key_of ask) ≡ None → AddsSession old between (key_of ask) now
     → registry_calls.Admits registry ask now (Ok seat) after
     → Admits h ask now (Ok seat) (StandsForHub after between (keys ++ key_of ask ∷ []))
@@ -217,7 +218,7 @@ new_admitted registry after old between keys h ask now seat stands new none adds
     there other true same in_keys = refl
     there other false apart in_keys = stands.keys_are.there other (sym (or_nothing (list_any (same_key other) keys)) ∙ in_keys)
 
-    going : (other : Key) (b : Bool) (x : SessionState) → cond b (Some adds.0) (get key_cmp old other) ≡ Some x → x.cause ≡ None → (list_any (same_key other) keys || b) ≡ true
+    going : (other : Key) (b : Bool) (x : SessionEntry) → cond b (Some adds.0) (get key_cmp old other) ≡ Some x → cause_in x ≡ None → (list_any (same_key other) keys || b) ≡ true
     going other true x is goes = or_true (list_any (same_key other) keys)
     going other false x is goes = or_nothing (list_any (same_key other) keys) ∙ stands.keys_are.going other x is goes
 
@@ -225,7 +226,7 @@ new_admitted registry after old between keys h ask now seat stands new none adds
     standing = record {
       registry_is = admits.2 ∙ ap (λ (r : RegistryState). with_entry r (admission_entry r ask now)) stands.registry_is;
       sessions_stand = λ other.
-          subst (λ (o : Option SessionState). BothStand o (cond (same_key key other) (Some s) (h.session other))) (sym (adds.2 other)) (at other (same_key key other) refl);
+          subst (λ (o : Option SessionEntry). BothStand o (cond (same_key key other) (Some s) (h.session other))) (sym (adds.2 other)) (at other (same_key key other) refl);
       keys_are = record {
         once = distinct_more keys key stands.keys_are.once fresh;
         there = λ other in_keys. ap is_some (adds.2 other) ∙ there other (same_key key other) refl (sym (among other) ∙ in_keys);
@@ -236,7 +237,7 @@ new_admitted registry after old between keys h ask now seat stands new none adds
     }
 
 -- the same, where the key and the list of keys are given
-pub new_admits : (registry after : RegistryState) (old between : BTreeMap Key SessionState) (keys new_keys : List Key) (h : Hub) (ask : Request) (key : Key) (now : ℕ) (seat : Seat)
+pub new_admits : (registry after : RegistryState) (old between : BTreeMap Key SessionEntry) (keys new_keys : List Key) (h : Hub) (ask : Request) (key : Key) (now : ℕ) (seat : Seat)
     → StandsForHub registry old keys h → ask.reconnection ≡ false → key ≡ key_of ask → get key_cmp old key ≡ None → AddsSession old between key now
     → new_keys ≡ keys ++ key ∷ [] → registry_calls.Admits registry ask now (Ok seat) after
     → Admits h ask now (Ok seat) (StandsForHub after between new_keys)
@@ -245,7 +246,7 @@ new_admits registry after old between keys new_keys h ask key now seat stands ne
     (new_admitted registry after old between keys h ask now seat stands new
     (subst (λ (k : Key). get key_cmp old k ≡ None) is none) (subst (λ (k : Key). AddsSession old between k now) is adds) admits)
 
-pub new_refused : (registry after : RegistryState) (old between new : BTreeMap Key SessionState) (keys new_keys : List Key) (h : Hub) (ask : Request) (key : Key) (now : ℕ) (fault : AdmitFault)
+pub new_refused : (registry after : RegistryState) (old between new : BTreeMap Key SessionEntry) (keys new_keys : List Key) (h : Hub) (ask : Request) (key : Key) (now : ℕ) (fault : AdmitFault)
     → StandsForHub registry old keys h → get key_cmp old key ≡ None → AddsSession old between key now → RemovesSession between new key
     → new_keys ≡ keys → registry_calls.Admits registry ask now (Err fault) after
     → Admits h ask now (Err (of_admission fault)) (StandsForHub after new new_keys)

@@ -7,7 +7,10 @@ use Rattle.ra_base.specs.declared.key.Key.{Key}
 use Rattle.ra_session.specs.Sessions.{Session}
 use Rattle.ra_session.specs.SessionCalls.{tick_session}
 use Rattle.ra_session.specs.SessionRefusals.{Refusal, Refuses, IsRefusal, tick_refusal}
+use Rattle.ra_hub.specs.declared.entry.SessionEntry.{SessionEntry}
+use Rattle.ra_hub.specs.declared.entry.SessionEntry.TheVariants.{Going}
 use Rattle.ra_session.specs.SessionStates.{SessionState, StandsForSession, OfEachSession, SessionBecomes}
+use Rattle.ra_hub.specs.Entries.{EntryStands, OfEachStanding, EntryBecomes}
 use Rattle.ra_session.specs.declared.values.SessionFault.{SessionFault}
 use Rattle.ra_session.specs.declared.values.SessionFault.TheVariants as faults
 use Rattle.ra_hub.specs.Faults.{is_no_memory}
@@ -15,40 +18,33 @@ use Rattle.ra_session.specs.Moments.{AdmitsTick}
 use Rattle.ra_hub.specs.Standing.{AtSession, Sets, Called, Ticked}
 use Rattle.ra_hub.specs.Sweeps.{tick_one}
 
-from_some : SessionState → Option SessionState → SessionState
+from_some : SessionEntry → Option SessionEntry → SessionEntry
 from_some d None = d
 from_some d (Some x) = x
 
-pub some_is : (a b : SessionState) → Some a ≡ Some b → a ≡ b
+pub some_is : (a b : SessionEntry) → Some a ≡ Some b → a ≡ b
 unfolding from_some
-some_is a b e = ap (λ (o : Option SessionState). from_some a o) e
+some_is a b e = ap (λ (o : Option SessionEntry). from_some a o) e
 
-some_none : {T : Type 0} (x : SessionState) → Some x ≡ None → T
+some_none : {T : Type 0} (x : SessionEntry) → Some x ≡ None → T
 some_none x e = cc
 
-pub none_is_not : {T : Type 0} (o : Option SessionState) (x : SessionState) → o ≡ Some x → o ≡ None → T
+pub none_is_not : {T : Type 0} (o : Option SessionEntry) (x : SessionEntry) → o ≡ Some x → o ≡ None → T
 none_is_not o x some none = some_none x (sym some ∙ none)
 
-pub session_called : (old new : BTreeMap Key SessionState) (key : Key) (x y : SessionState) (P : SessionState → SessionState → Type 0)
+pub session_called : (old new : BTreeMap Key SessionEntry) (key : Key) (x y : SessionEntry) (P : SessionEntry → SessionEntry → Type 0)
     → Some x ≡ get key_cmp old key → Sets old new key y → P x y → AtSession old new key P
 session_called old new key x y P is sets holds = record {
-  there = λ z at. (y, sets, subst (λ (w : SessionState). P w y) (some_is x z (is ∙ at)) holds);
+  there = λ z at. (y, sets, subst (λ (w : SessionEntry). P w y) (some_is x z (is ∙ at)) holds);
   none = λ none. none_is_not (get key_cmp old key) x (sym is) none;
 }
 
-pub session_missing : (old new : BTreeMap Key SessionState) (key : Key) (P : SessionState → SessionState → Type 0)
+pub session_missing : (old new : BTreeMap Key SessionEntry) (key : Key) (P : SessionEntry → SessionEntry → Type 0)
     → None ≡ get key_cmp old key → new ≡ old → AtSession old new key P
 session_missing old new key P is same = record {
   there = λ z at. none_is_not (get key_cmp old key) z at (sym is);
-  none = λ none other. ap (λ (m : BTreeMap Key SessionState). get key_cmp m other) same;
+  none = λ none other. ap (λ (m : BTreeMap Key SessionEntry). get key_cmp m other) same;
 }
-
--- the clauses of a call as one fact
-pub called : {X : Type 0} (x y : SessionState) (refusal : Session → Option Refusal) (step : Session → Session) (result : Result X SessionFault)
-    → OnOk result (SessionBecomes x y step) → OfEachSession x (λ (s : Session). Refuses result (refusal s)) → OnErr result (y ≡ x)
-    → Called refusal step result x y
-called x y refusal step (Ok r) becomes refused same = λ s stands. (refused s stands, becomes s stands)
-called x y refusal step (Err fault) becomes refused same = (same, refused)
 
 -- ---- ticks
 
@@ -66,7 +62,7 @@ tick_refused r faults.NoMemory is held = cc
 
 -- a session that was ticked
 pub ticks : (now : ℕ) (x y : SessionState) → SessionBecomes x y (tick_session now) → OfEachSession x (λ (s : Session). tick_refusal now s ≡ None)
-    → SessionBecomes x y (tick_one now)
+    → EntryBecomes (Going x) (Going y) (tick_one now)
 ticks now x y becomes none s stands =
     subst (λ (r : Option Refusal). StandsForSession y (cond (is_some r) s (tick_session now s))) (sym (none s stands)) (becomes s stands)
 
@@ -84,11 +80,11 @@ memory_is faults.NoMemory is = refl
 
 -- a session whose tick was refused
 pub stays : (now : ℕ) (x y : SessionState) (fault : SessionFault) → y ≡ x → OfEachSession x (λ (s : Session). IsRefusal fault (tick_refusal now s))
-    → (fault ≡ faults.NoMemory → AdmitsTick now x) → Ticked now (not (is_no_memory fault)) x y
+    → (fault ≡ faults.NoMemory → AdmitsTick now x) → Ticked now (not (is_no_memory fault)) (Going x) (Going y)
 stays now x y fault same refused short = here (is_no_memory fault) refl
   where
-    here : (b : Bool) → is_no_memory fault ≡ b → Ticked now (not b) x y
-    here true found = (same, short (memory_is fault found))
+    here : (b : Bool) → is_no_memory fault ≡ b → Ticked now (not b) (Going x) (Going y)
+    here true found = (ap Going same, short (memory_is fault found))
     here false found = λ s stands.
         subst (λ (b : Bool). StandsForSession y (cond b s (tick_session now s))) (sym (tick_refused (tick_refusal now s) fault (refused s stands) found))
         (subst (λ (z : SessionState). StandsForSession z s) (sym same) stands)

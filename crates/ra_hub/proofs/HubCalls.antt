@@ -12,7 +12,8 @@ use Rattle.ra_registry.specs.Seats.{unspent}
 use Rattle.ra_session.specs.Sessions.{Session}
 use Rattle.ra_session.specs.SessionCalls.{lose_session, end_session}
 use Rattle.ra_session.specs.SessionRefusals.{Refusal}
-use Rattle.ra_session.specs.SessionStates.{SessionState, StandsForSession, SessionBecomes}
+use Rattle.ra_hub.specs.declared.entry.SessionEntry.{SessionEntry}
+use Rattle.ra_hub.specs.Entries.{EntryStands, EntryBecomes}
 use Rattle.ra_session.specs.TurnRefusals.{TurnLeaves, is_bad_ipc}
 use Rattle.ra_session.specs.Turns.{turn}
 use Rattle.ra_session.specs.View.{told, tell_refusal}
@@ -33,7 +34,7 @@ use Rattle.ra_hub.proofs.SessionMaps.{in_memory}
 
 -- ---- calls that a refusal leaves as they were
 
-pub called_ok : {X Y : Type 0} (registry : RegistryState) (old new : BTreeMap Key SessionState) (keys : List Key) (h : Hub) (key : Key) (s : Session)
+pub called_ok : {X Y : Type 0} (registry : RegistryState) (old new : BTreeMap Key SessionEntry) (keys : List Key) (h : Hub) (key : Key) (s : Session)
     (refusal : Session → Option Refusal) (step : Session → Session) (r : X) (y : Y)
     → StandsForHub registry old keys h → h.session key ≡ Some s → AtSession old new key (Called refusal step (Ok r)) → GoesBack step
     → Answers (refusal s) GivesNothing (at_key key (step s) h) (λ (fault : SessionFault). h) h (Ok y) (StandsForHub registry new keys)
@@ -42,7 +43,7 @@ called_ok registry old new keys h key s refusal step r y stands is called back =
     let done = called.there x.0 x.1 in
     ((done.2 s x.2).0, tt, hub_set registry old new keys h key _ s (step s) stands called is (λ a b to holds. (holds s to).1) (back s))
 
-pub called_err : (X Y : Type 0) (registry : RegistryState) (old new : BTreeMap Key SessionState) (keys : List Key) (h : Hub) (key : Key) (s : Session)
+pub called_err : (X Y : Type 0) (registry : RegistryState) (old new : BTreeMap Key SessionEntry) (keys : List Key) (h : Hub) (key : Key) (s : Session)
     (refusal : Session → Option Refusal) (step : Session → Session) (fault : SessionFault)
     → StandsForHub registry old keys h → h.session key ≡ Some s → AtSession old new key (Called {X = X} refusal step (Err fault))
     → Answers {X = Y} (refusal s) GivesNothing (at_key key (step s) h) (λ (f : SessionFault). h) h (Err (hub.Session fault)) (StandsForHub registry new keys)
@@ -69,7 +70,7 @@ left_by X (faults.NoSuchCall id) made same left = inr (refl, left)
 left_by X faults.WrongKind made same left = inr (refl, left)
 left_by X faults.NoMemory made same left = inr (refl, left)
 
-pub turned_ok : (registry : RegistryState) (old new : BTreeMap Key SessionState) (keys : List Key) (h : Hub) (seat : Seat) (piece : List ℕ) (now : ℕ) (t : Turn)
+pub turned_ok : (registry : RegistryState) (old new : BTreeMap Key SessionEntry) (keys : List Key) (h : Hub) (seat : Seat) (piece : List ℕ) (now : ℕ) (t : Turn)
     → StandsForHub registry old keys h → 0 < unspent seat registry.history → AtSession old new seat.key (Turned seat.epoch piece now (Ok t))
     → Turns h seat piece now (Ok t) (StandsForHub registry new keys)
 turned_ok registry old new keys h seat piece now t stands some called =
@@ -85,7 +86,7 @@ turned_ok registry old new keys h seat piece now t stands some called =
       ),
     )
 
-pub turned_err : (registry : RegistryState) (old new : BTreeMap Key SessionState) (keys : List Key) (h : Hub) (seat : Seat) (piece : List ℕ) (now : ℕ) (fault : SessionFault)
+pub turned_err : (registry : RegistryState) (old new : BTreeMap Key SessionEntry) (keys : List Key) (h : Hub) (seat : Seat) (piece : List ℕ) (now : ℕ) (fault : SessionFault)
     → StandsForHub registry old keys h → 0 < unspent seat registry.history → AtSession old new seat.key (Turned seat.epoch piece now (Err fault))
     → Turns h seat piece now (Err (hub.Session fault)) (StandsForHub registry new keys)
 turned_err registry old new keys h seat piece now fault stands some called =
@@ -94,19 +95,19 @@ turned_err registry old new keys h seat piece now fault stands some called =
     has : (s : Session) × (h.session seat.key ≡ Some s)
     has = seat_has registry old keys h seat stands some
 
-    x : (x : SessionState) × (get key_cmp old seat.key ≡ Some x) × StandsForSession x has.0
+    x : (x : SessionEntry) × (get key_cmp old seat.key ≡ Some x) × EntryStands x has.0
     x = in_memory old h.session seat.key has.0 stands.sessions_stand has.1
 
-    done : (y : SessionState) × Sets old new seat.key y × Turned seat.epoch piece now (Err fault) x.0 y
+    done : (y : SessionEntry) × Sets old new seat.key y × Turned seat.epoch piece now (Err fault) x.0 y
     done = called.there x.0 x.1
 
     made : Hub
     made = at_key seat.key (turn seat.epoch piece now has.0) h
 
-    bad : (a b : SessionState) → is_bad_ipc fault ≡ true → Turned seat.epoch piece now (Err fault) a b → SessionBecomes a b (turn seat.epoch piece now)
+    bad : (a b : SessionEntry) → is_bad_ipc fault ≡ true → Turned seat.epoch piece now (Err fault) a b → EntryBecomes a b (turn seat.epoch piece now)
     bad a b is holds = elim (left_by Turn fault _ _ holds.leaves) [ inl e ↦ e.1 | inr e ↦ true_false (sym is ∙ e.0) ]
 
-    good : (a b : SessionState) → is_bad_ipc fault ≡ false → Turned seat.epoch piece now (Err fault) a b → b ≡ a
+    good : (a b : SessionEntry) → is_bad_ipc fault ≡ false → Turned seat.epoch piece now (Err fault) a b → b ≡ a
     good a b is holds = elim (left_by Turn fault _ _ holds.leaves) [ inl e ↦ true_false (sym e.0 ∙ is) | inr e ↦ e.1 ]
 
     after : (b : Bool) → is_bad_ipc fault ≡ b → StandsForHub registry new keys (cond (is_bad_ipc fault) made h)
@@ -124,7 +125,7 @@ no_row None is there = cc
 no_row (Some row) is there = cc
 
 -- a key without a session
-pub nobody_told : (Y : Type 0) (registry after : RegistryState) (sessions : BTreeMap Key SessionState) (keys : List Key) (h : Hub) (key : Key) (tell : Tell) (now : ℕ)
+pub nobody_told : (Y : Type 0) (registry after : RegistryState) (sessions : BTreeMap Key SessionEntry) (keys : List Key) (h : Hub) (key : Key) (tell : Tell) (now : ℕ)
     (fault : HubFault) → StandsForHub registry sessions keys h → h.session key ≡ None → TellsNobody registry after key now fault
     → Tells {X = Y} h key tell now (Err fault) (StandsForHub after sessions keys)
 unfolding missed
@@ -152,7 +153,7 @@ nobody_told Y registry after sessions keys h key tell now fault stands none told
     here (Some r) is hub.KeepFault told_so = told_so
 
 -- a key with a session
-tells_session : {Y : Type 0} (registry : RegistryState) (sessions : BTreeMap Key SessionState) (keys : List Key) (h : Hub) (key : Key) (tell : Tell) (now : ℕ) (s : Session)
+tells_session : {Y : Type 0} (registry : RegistryState) (sessions : BTreeMap Key SessionEntry) (keys : List Key) (h : Hub) (key : Key) (tell : Tell) (now : ℕ) (s : Session)
     (result : Result Y HubFault) (After : Hub → Type 0) → StandsForHub registry sessions keys h → h.session key ≡ Some s
     → Answers (tell_refusal tell s) GivesNothing (at_key key (told tell now s) h) (λ (fault : SessionFault). h) h result After
     → Tells h key tell now result After
@@ -163,19 +164,19 @@ tells_session registry sessions keys h key tell now s result After stands is ans
     here None none = absurd (no_row (row h key) none (session_row registry sessions keys h key s stands is))
     here (Some r) some = answers
 
-session_of : (o : Option SessionState) (p : Option Session) → is_some o ≡ true → BothStand o p → (s : Session) × (p ≡ Some s)
+session_of : (o : Option SessionEntry) (p : Option Session) → is_some o ≡ true → BothStand o p → (s : Session) × (p ≡ Some s)
 session_of None p there both = cc
 session_of (Some x) None there both = absurd both
 session_of (Some x) (Some s) there both = (s, refl)
 
-pub told_ok : {X Y : Type 0} (registry : RegistryState) (old new : BTreeMap Key SessionState) (keys : List Key) (h : Hub) (key : Key) (tell : Tell) (now : ℕ) (r : X) (y : Y)
+pub told_ok : {X Y : Type 0} (registry : RegistryState) (old new : BTreeMap Key SessionEntry) (keys : List Key) (h : Hub) (key : Key) (tell : Tell) (now : ℕ) (r : X) (y : Y)
     → StandsForHub registry old keys h → is_some (get key_cmp old key) ≡ true → AtSession old new key (Called (tell_refusal tell) (told tell now) (Ok r))
     → Tells h key tell now (Ok y) (StandsForHub registry new keys)
 told_ok registry old new keys h key tell now r y stands there called =
     let s = session_of (get key_cmp old key) (h.session key) there (stands.sessions_stand key) in
     tells_session registry old keys h key tell now s.0 (Ok y) _ stands s.1 (called_ok registry old new keys h key s.0 (tell_refusal tell) (told tell now) r y stands s.1 called (told_back tell now))
 
-pub told_err : (X Y : Type 0) (registry : RegistryState) (old new : BTreeMap Key SessionState) (keys : List Key) (h : Hub) (key : Key) (tell : Tell) (now : ℕ) (fault : SessionFault)
+pub told_err : (X Y : Type 0) (registry : RegistryState) (old new : BTreeMap Key SessionEntry) (keys : List Key) (h : Hub) (key : Key) (tell : Tell) (now : ℕ) (fault : SessionFault)
     → StandsForHub registry old keys h → is_some (get key_cmp old key) ≡ true → AtSession old new key (Called {X = X} (tell_refusal tell) (told tell now) (Err fault))
     → Tells {X = Y} h key tell now (Err (hub.Session fault)) (StandsForHub registry new keys)
 told_err X Y registry old new keys h key tell now fault stands there called =
@@ -185,9 +186,9 @@ told_err X Y registry old new keys h key tell now fault stands there called =
 
 -- ---- ends of seats
 
-pub loses : (registry after : RegistryState) (old new : BTreeMap Key SessionState) (keys : List Key) (h : Hub) (seat : Seat) (now : ℕ)
+pub loses : (registry after : RegistryState) (old new : BTreeMap Key SessionEntry) (keys : List Key) (h : Hub) (seat : Seat) (now : ℕ)
     → StandsForHub registry old keys h → 0 < unspent seat registry.history
-    → AtSession old new seat.key (λ (x y : SessionState). SessionBecomes x y (lose_session seat.epoch))
+    → AtSession old new seat.key (λ (x y : SessionEntry). EntryBecomes x y (lose_session seat.epoch))
     → after ≡ with_entry registry (entry_of seat.key now (Lost seat.epoch))
     → Loses h seat now (StandsForHub after new keys)
 unfolding seat_lost
@@ -199,9 +200,9 @@ loses registry after old new keys h seat now stands some called is =
           (hub_set registry old new keys h seat.key _ has.0 (lose_session seat.epoch has.0) stands called has.1 (λ x y to becomes. becomes has.0 to) (lose_back seat.epoch has.0)) is refl,
     )
 
-ends_there : (registry : RegistryState) (old new : BTreeMap Key SessionState) (keys : List Key) (h : Hub) (seat : Seat) (cause : Cause) (s : Session)
+ends_there : (registry : RegistryState) (old new : BTreeMap Key SessionEntry) (keys : List Key) (h : Hub) (seat : Seat) (cause : Cause) (s : Session)
     → StandsForHub registry old keys h → h.session seat.key ≡ Some s
-    → (closes seat.epoch (row_of registry seat.key) ≡ true → AtSession old new seat.key (λ (x y : SessionState). SessionBecomes x y (end_session cause)))
+    → (closes seat.epoch (row_of registry seat.key) ≡ true → AtSession old new seat.key (λ (x y : SessionEntry). EntryBecomes x y (end_session cause)))
     → (closes seat.epoch (row_of registry seat.key) ≡ false → new ≡ old)
     → StandsForHub registry new keys (with_end seat cause s h)
 ends_there registry old new keys h seat cause s stands is closed open_still = here (closes seat.epoch (row_of registry seat.key)) refl
@@ -216,11 +217,11 @@ ends_there registry old new keys h seat cause s stands is closed open_still = he
         (hub_set registry old new keys h seat.key _ s (end_session cause s) stands (closed e) is (λ x y to becomes. becomes s to) (end_back cause s))
     here false e =
         subst (λ (b : Bool). StandsForHub registry new keys (cond b (at_key seat.key (end_session cause s) h) h)) (sym e ∙ same)
-        (subst (λ (m : BTreeMap Key SessionState). StandsForHub registry m keys h) (sym (open_still e)) stands)
+        (subst (λ (m : BTreeMap Key SessionEntry). StandsForHub registry m keys h) (sym (open_still e)) stands)
 
-pub closes_it : (registry after : RegistryState) (old new : BTreeMap Key SessionState) (keys : List Key) (h : Hub) (seat : Seat) (cause : Cause) (now : ℕ)
+pub closes_it : (registry after : RegistryState) (old new : BTreeMap Key SessionEntry) (keys : List Key) (h : Hub) (seat : Seat) (cause : Cause) (now : ℕ)
     → StandsForHub registry old keys h → 0 < unspent seat registry.history
-    → (closes seat.epoch (row_of registry seat.key) ≡ true → AtSession old new seat.key (λ (x y : SessionState). SessionBecomes x y (end_session cause)))
+    → (closes seat.epoch (row_of registry seat.key) ≡ true → AtSession old new seat.key (λ (x y : SessionEntry). EntryBecomes x y (end_session cause)))
     → (closes seat.epoch (row_of registry seat.key) ≡ false → new ≡ old)
     → after ≡ with_entry registry (entry_of seat.key now (Closed seat.epoch cause))
     → Closes h seat cause now (StandsForHub after new keys)
@@ -233,11 +234,11 @@ closes_it registry after old new keys h seat cause now stands some closed open_s
           (ends_there registry old new keys h seat cause has.0 stands has.1 closed open_still) is refl,
     )
 
-pub nobody_there : (sessions : BTreeMap Key SessionState) (f : Key → Option Session) (key : Key) → SessionsStand sessions f → is_some (get key_cmp sessions key) ≡ false
+pub nobody_there : (sessions : BTreeMap Key SessionEntry) (f : Key → Option Session) (key : Key) → SessionsStand sessions f → is_some (get key_cmp sessions key) ≡ false
     → f key ≡ None
 nobody_there sessions f key stand none = here (get key_cmp sessions key) (f key) none (stand key)
   where
-    here : (o : Option SessionState) (p : Option Session) → is_some o ≡ false → BothStand o p → p ≡ None
+    here : (o : Option SessionEntry) (p : Option Session) → is_some o ≡ false → BothStand o p → p ≡ None
     here None None is both = refl
     here None (Some s) is both = absurd both
     here (Some x) p is both = cc

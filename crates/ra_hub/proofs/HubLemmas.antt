@@ -10,7 +10,10 @@ use Rattle.ra_registry.specs.Rows.{same_key, start_row}
 use Rattle.ra_registry.specs.Seats.{admits, unspent, admissions_of}
 use Rattle.ra_registry.proofs.SameKeys.{same_key_is}
 use Rattle.ra_session.specs.Sessions.{Session}
-use Rattle.ra_session.specs.SessionStates.{SessionState, StandsForSession}
+use Rattle.ra_hub.specs.declared.entry.SessionEntry.{SessionEntry}
+use Rattle.ra_hub.specs.declared.entry.SessionEntry.TheVariants.{Going, Over}
+use Rattle.ra_hub.specs.Entries.{EntryStands}
+use Rattle.ra_session.specs.SessionStates.{Runs}
 use Rattle.ra_hub.specs.Hubs.{Hub, row, with_session, at_key, enter}
 use Rattle.ra_hub.specs.Standing.{AtSession, SessionsStand, StandsForHub}
 use Rattle.ra_hub.specs.Running.{HubRuns}
@@ -28,9 +31,9 @@ set_there f key other s t is = here (same_key key other) refl
     here false apart = refl
 
 -- a call of one session
-pub hub_set : (registry : RegistryState) (old new : BTreeMap Key SessionState) (keys : List Key) (h : Hub) (key : Key) (P : SessionState → SessionState → Type 0) (s t : Session)
+pub hub_set : (registry : RegistryState) (old new : BTreeMap Key SessionEntry) (keys : List Key) (h : Hub) (key : Key) (P : SessionEntry → SessionEntry → Type 0) (s t : Session)
     → StandsForHub registry old keys h → AtSession old new key P → h.session key ≡ Some s
-    → ((x y : SessionState) → StandsForSession x s → P x y → StandsForSession y t) → (t.cause ≡ None → s.cause ≡ None)
+    → ((x y : SessionEntry) → EntryStands x s → P x y → EntryStands y t) → (t.cause ≡ None → s.cause ≡ None)
     → StandsForHub registry new keys (at_key key t h)
 hub_set registry old new keys h key P s t stands called is becomes back = record {
   registry_is = stands.registry_is;
@@ -43,8 +46,8 @@ hub_set registry old new keys h key P s t stands called is becomes back = record
     after = stand_set old new key P h.session s t called stands.sessions_stand is becomes
 
 -- a call that leaves its session as it was
-pub hub_same : (registry : RegistryState) (old new : BTreeMap Key SessionState) (keys : List Key) (h : Hub) (key : Key) (P : SessionState → SessionState → Type 0)
-    → StandsForHub registry old keys h → AtSession old new key P → ((x y : SessionState) → P x y → y ≡ x) → StandsForHub registry new keys h
+pub hub_same : (registry : RegistryState) (old new : BTreeMap Key SessionEntry) (keys : List Key) (h : Hub) (key : Key) (P : SessionEntry → SessionEntry → Type 0)
+    → StandsForHub registry old keys h → AtSession old new key P → ((x y : SessionEntry) → P x y → y ≡ x) → StandsForHub registry new keys h
 hub_same registry old new keys h key P stands called same = record {
   registry_is = stands.registry_is;
   sessions_stand = after;
@@ -58,7 +61,7 @@ hub_same registry old new keys h key P stands called same = record {
 -- ---- the registry
 
 -- an entry that admits nobody
-pub hub_entered : (registry after : RegistryState) (sessions : BTreeMap Key SessionState) (keys : List Key) (h : Hub) (entry : Past)
+pub hub_entered : (registry after : RegistryState) (sessions : BTreeMap Key SessionEntry) (keys : List Key) (h : Hub) (entry : Past)
     → StandsForHub registry sessions keys h → after ≡ with_entry registry entry → admits entry.did ≡ false → StandsForHub after sessions keys (enter entry h)
 hub_entered registry after sessions keys h entry stands is none = record {
   registry_is = is ∙ ap (λ (r : RegistryState). with_entry r entry) stands.registry_is;
@@ -68,7 +71,7 @@ hub_entered registry after sessions keys h entry stands is none = record {
 }
 
 -- the same registry
-pub hub_kept : (registry after : RegistryState) (sessions : BTreeMap Key SessionState) (keys : List Key) (h : Hub)
+pub hub_kept : (registry after : RegistryState) (sessions : BTreeMap Key SessionEntry) (keys : List Key) (h : Hub)
     → StandsForHub registry sessions keys h → after ≡ registry → StandsForHub after sessions keys h
 hub_kept registry after sessions keys h stands same = subst (λ (r : RegistryState). StandsForHub r sessions keys h) (sym same) stands
 
@@ -79,7 +82,7 @@ some_there None there = cc
 some_there (Some s) there = (s, refl)
 
 -- a seat that is not spent has a session
-pub seat_has : (registry : RegistryState) (sessions : BTreeMap Key SessionState) (keys : List Key) (h : Hub) (seat : Seat)
+pub seat_has : (registry : RegistryState) (sessions : BTreeMap Key SessionEntry) (keys : List Key) (h : Hub) (seat : Seat)
     → StandsForHub registry sessions keys h → 0 < unspent seat registry.history → (s : Session) × (h.session seat.key ≡ Some s)
 seat_has registry sessions keys h seat stands some =
     some_there (h.session seat.key)
@@ -90,11 +93,18 @@ or_right true b e = refl
 or_right false b e = e
 
 -- a session has a row
-pub session_row : (registry : RegistryState) (sessions : BTreeMap Key SessionState) (keys : List Key) (h : Hub) (key : Key) (s : Session)
+pub session_row : (registry : RegistryState) (sessions : BTreeMap Key SessionEntry) (keys : List Key) (h : Hub) (key : Key) (s : Session)
     → StandsForHub registry sessions keys h → h.session key ≡ Some s → is_some (row h key) ≡ true
 session_row registry sessions keys h key s stands is =
     rows_are h.registry key ∙ or_right (is_some (start_row h.registry.start key)) (nat_lt 0 (admissions_of key h.registry.history)) (sym (stands.sessions_are key) ∙ ap is_some is)
 
+entry_runs : (x : SessionEntry) (s : Session) → EntryStands x s → Runs s.cause s.peer.endpoint
+entry_runs (Going x) s stands = stands.runs
+entry_runs (Over c) s stands = λ none. some_none (sym stands ∙ none)
+  where
+    some_none : {T : Type 0} → Some c ≡ None → T
+    some_none e = cc
+
 -- the sessions of a hub in memory run
-pub sessions_run : (registry : RegistryState) (sessions : BTreeMap Key SessionState) (keys : List Key) (h : Hub) → StandsForHub registry sessions keys h → HubRuns h
-sessions_run registry sessions keys h stands key s is = (in_memory sessions h.session key s stands.sessions_stand is).2.runs
+pub sessions_run : (registry : RegistryState) (sessions : BTreeMap Key SessionEntry) (keys : List Key) (h : Hub) → StandsForHub registry sessions keys h → HubRuns h
+sessions_run registry sessions keys h stands key s is = let x = in_memory sessions h.session key s stands.sessions_stand is in entry_runs x.0 s x.2

@@ -14,12 +14,14 @@ use Rattle.ra_base.specs.declared.kind.Kind.TheVariants.{Management}
 use Rattle.ra_registry.specs.Rows.{same_key}
 use Rattle.ra_registry.proofs.SameKeys.{same_key_is}
 use Rattle.ra_session.specs.Sessions.{Session}
-use Rattle.ra_session.specs.SessionStates.{SessionState, StandsForSession}
+use Rattle.ra_hub.specs.declared.entry.SessionEntry.{SessionEntry}
+use Rattle.ra_hub.specs.Entries.{cause_in}
 use Rattle.ra_hub.specs.Hubs.{with_session}
 use Rattle.ra_hub.specs.Standing.{AreKeys, BothStand, SessionsStand}
 use Rattle.ra_hub.specs.Sweeping.{is_going, going_keys}
 use Rattle.ra_hub.specs.Sweeps.{AreDistinct}
 use Rattle.ra_hub.proofs.Endings.{GoesBack}
+use Rattle.ra_hub.proofs.OverLemmas.{cause_of}
 use Rattle.ra_hub.proofs.SweepLemmas.{distinct_more}
 
 -- ---- sessions that stay
@@ -48,10 +50,7 @@ follows_set f key other s t is back = here (same_key key other) refl
         subst (λ (p : Option Session). Follows p (Some t)) (sym (ap f (sym (same_key_is key other same)) ∙ is)) back
     here false apart = follows_itself (f other)
 
-pub state_cause : (x : SessionState) (s : Session) → StandsForSession x s → s.cause ≡ x.cause
-state_cause x s to = ap (λ (t : Session). t.cause) to.same
-
-pub both_there : (o : Option SessionState) (p : Option Session) → BothStand o p → is_some o ≡ is_some p
+pub both_there : (o : Option SessionEntry) (p : Option Session) → BothStand o p → is_some o ≡ is_some p
 both_there None None both = refl
 both_there None (Some s) both = absurd both
 both_there (Some x) None both = absurd both
@@ -63,14 +62,14 @@ follow_there None (Some t) follow = absurd follow
 follow_there (Some s) None follow = absurd follow
 follow_there (Some s) (Some t) follow = refl
 
-going_before : (o : Option SessionState) (y : SessionState) (p q : Option Session) → BothStand o p → BothStand (Some y) q → Follows p q → y.cause ≡ None
-    → (x : SessionState) × (o ≡ Some x) × (x.cause ≡ None)
+going_before : (o : Option SessionEntry) (y : SessionEntry) (p q : Option Session) → BothStand o p → BothStand (Some y) q → Follows p q → cause_in y ≡ None
+    → (x : SessionEntry) × (o ≡ Some x) × (cause_in x ≡ None)
 going_before o y p None was now follow none = absurd now
 going_before o y None (Some t) was now follow none = absurd follow
 going_before None y (Some s) (Some t) was now follow none = absurd was
-going_before (Some x) y (Some s) (Some t) was now follow none = (x, refl, sym (state_cause x s was) ∙ follow (state_cause y t now ∙ none))
+going_before (Some x) y (Some s) (Some t) was now follow none = (x, refl, sym (cause_of x s was) ∙ follow (cause_of y t now ∙ none))
 
-pub keys_follow : (keys : List Key) (old new : BTreeMap Key SessionState) (f g : Key → Option Session) → SessionsStand old f → SessionsStand new g
+pub keys_follow : (keys : List Key) (old new : BTreeMap Key SessionEntry) (f g : Key → Option Session) → SessionsStand old f → SessionsStand new g
     → ((key : Key) → Follows (f key) (g key)) → AreKeys keys old → AreKeys keys new
 keys_follow keys old new f g was now follow are = record {
   once = are.once;
@@ -78,13 +77,13 @@ keys_follow keys old new f g was now follow are = record {
       both_there (get key_cmp new key) (g key) (now key) ∙ sym (follow_there (f key) (g key) (follow key))
       ∙ sym (both_there (get key_cmp old key) (f key) (was key)) ∙ are.there key among;
   going = λ key y is none.
-      let before = going_before (get key_cmp old key) y (f key) (g key) (was key) (subst (λ (o : Option SessionState). BothStand o (g key)) is (now key)) (follow key) none in
+      let before = going_before (get key_cmp old key) y (f key) (g key) (was key) (subst (λ (o : Option SessionEntry). BothStand o (g key)) is (now key)) (follow key) none in
       are.going key before.0 before.1 before.2;
 }
 
 -- ---- keys that are dropped
 
-pub going_any : (keys : List Key) (m : BTreeMap Key SessionState) (key : Key)
+pub going_any : (keys : List Key) (m : BTreeMap Key SessionEntry) (key : Key)
     → list_any (same_key key) (going_keys keys m) ≡ (is_going (get key_cmp m key) && list_any (same_key key) keys)
 going_any keys m key =
     any-filter_same (same_key key) (λ k. is_going (get key_cmp m k)) (is_going (get key_cmp m key))
@@ -109,7 +108,7 @@ and_both false c e f = e
 none_there : {T : Type 0} (i : ℕ) → i < 0 → T
 none_there i small = absurd (omega (arith, small))
 
-going_distinct : (keys : List Key) (m : BTreeMap Key SessionState) → AreDistinct keys → AreDistinct (going_keys keys m)
+going_distinct : (keys : List Key) (m : BTreeMap Key SessionEntry) → AreDistinct keys → AreDistinct (going_keys keys m)
 going_distinct keys m distinct =
     subst (λ (ks : List Key). AreDistinct (going_keys ks m)) (take_all (length keys) keys (omega arith)) (up_to (length keys) (omega arith))
   where
@@ -135,10 +134,10 @@ none_is : (c : Option Cause) → c ≡ None → is_none c ≡ true
 none_is None e = refl
 none_is (Some cause) e = cc
 
-pub going_are : (keys : List Key) (m : BTreeMap Key SessionState) → AreKeys keys m → AreKeys (going_keys keys m) m
+pub going_are : (keys : List Key) (m : BTreeMap Key SessionEntry) → AreKeys keys m → AreKeys (going_keys keys m) m
 going_are keys m are = record {
   once = going_distinct keys m are.once;
   there = λ key among. are.there key (and_right (is_going (get key_cmp m key)) (list_any (same_key key) keys) (sym (going_any keys m key) ∙ among));
   going = λ key x is none.
-      going_any keys m key ∙ and_both (is_going (get key_cmp m key)) (list_any (same_key key) keys) (ap is_going is ∙ none_is x.cause none) (are.going key x is none);
+      going_any keys m key ∙ and_both (is_going (get key_cmp m key)) (list_any (same_key key) keys) (ap is_going is ∙ none_is (cause_in x) none) (are.going key x is none);
 }

@@ -1,4 +1,5 @@
 pub mod Calling
+mod OverLemmas
 pub mod SessionMaps
 pub mod SweepLemmas
 pub mod Endings

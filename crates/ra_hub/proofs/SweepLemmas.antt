@@ -18,7 +18,9 @@ use Rattle.ra_registry.specs.TableChanges.{has_key}
 use Rattle.ra_registry.proofs.SameKeys.{same_key_is, same_key_itself, same_key_other_way}
 use Rattle.ra_session.specs.Sessions.{Session}
 use Rattle.ra_session.specs.SessionCalls.{end_session}
-use Rattle.ra_session.specs.SessionStates.{SessionState, StandsForSession, SessionBecomes}
+use Rattle.ra_hub.specs.declared.entry.SessionEntry.{SessionEntry}
+use Rattle.ra_hub.specs.declared.entry.SessionEntry.TheVariants.{Going, Over}
+use Rattle.ra_hub.specs.Entries.{EntryStands, EntryBecomes, EntryAdmits}
 use Rattle.ra_hub.specs.HubSeats.{one_if}
 use Rattle.ra_hub.specs.Standing.{AtSession, BothStand, SessionsStand, Ticked}
 use Rattle.ra_hub.specs.Sweeping.{ended_if, ended_in, EndsAll, reached, ticked_in, IsAdmitted, TicksAll}
@@ -54,17 +56,17 @@ pub is_that : (a b : Session) → Some a ≡ Some b → a ≡ b
 unfolding from
 is_that a b e = ap (λ (o : Option Session). from a o) e
 
-ended_there : (before : Bool) (p : Option Session) (x y : SessionState) (s : Session) → option_map (ended_if before) p ≡ Some s → StandsForSession x s
-    → SessionBecomes x y (end_session GraceOver) → BothStand (Some y) (option_map (ended_if true) p)
+ended_there : (before : Bool) (p : Option Session) (x y : SessionEntry) (s : Session) → option_map (ended_if before) p ≡ Some s → EntryStands x s
+    → EntryBecomes x y (end_session GraceOver) → BothStand (Some y) (option_map (ended_if true) p)
 ended_there before None x y s is to becomes = cc
 ended_there before (Some q) x y s is to becomes =
-    subst (λ (t : Session). StandsForSession y t) (ended_again before q)
-    (becomes (ended_if before q) (subst (λ (t : Session). StandsForSession x t) (sym (is_that (ended_if before q) s is)) to))
+    subst (λ (t : Session). EntryStands y t) (ended_again before q)
+    (becomes (ended_if before q) (subst (λ (t : Session). EntryStands x t) (sym (is_that (ended_if before q) s is)) to))
 
 -- one entry more
-pub ends_more : (entries : List Past) (i : ℕ) (entry : Past) (old between after : BTreeMap Key SessionState)
+pub ends_more : (entries : List Past) (i : ℕ) (entry : Past) (old between after : BTreeMap Key SessionEntry)
     → i < length entries → entry ≡ get_or entries i entry → EndsAll (take i entries) old between
-    → AtSession between after entry.key (λ (x y : SessionState). SessionBecomes x y (end_session GraceOver))
+    → AtSession between after entry.key (λ (x y : SessionEntry). EntryBecomes x y (end_session GraceOver))
     → EndsAll (take (i + 1) entries) old after
 ends_more entries i entry old between after small is so_far one f stand =
     stand_at between after entry.key _ (ended_in (take i entries) f) (ended_in (take (i + 1) entries) f) one (so_far f stand)
@@ -90,7 +92,7 @@ ends_more entries i entry old between after small is so_far one f stand =
     itself b = or_true b (same_key entry.key entry.key) (same_key_itself entry.key)
 
 -- none so far
-pub ends_none : (old : BTreeMap Key SessionState) → EndsAll [] old old
+pub ends_none : (old : BTreeMap Key SessionEntry) → EndsAll [] old old
 ends_none old f stand key = subst (λ (p : Option Session). BothStand (get key_cmp old key) p) (sym (unchanged (f key))) (stand key)
   where
     unchanged : (p : Option Session) → option_map (ended_if false) p ≡ p
@@ -166,15 +168,19 @@ and_one : (a b : Bool) → b ≡ true → (a && b) ≡ a
 and_one true b e = e
 and_one false b e = refl
 
-ticked_there : (ticked : Bool) (now : ℕ) (p : Option Session) (x y : SessionState) (s : Session) → option_map (reached false false now) p ≡ Some s
-    → StandsForSession x s → Ticked now ticked x y → BothStand (Some y) (option_map (reached true (not ticked) now) p)
+ticked_there : (ticked : Bool) (now : ℕ) (p : Option Session) (x y : SessionEntry) (s : Session) → option_map (reached false false now) p ≡ Some s
+    → EntryStands x s → Ticked now ticked x y → BothStand (Some y) (option_map (reached true (not ticked) now) p)
 ticked_there ticked now None x y s is to holds = cc
-ticked_there true now (Some q) x y s is to holds = holds q (subst (λ (t : Session). StandsForSession x t) (sym (is_that q s is)) to)
+ticked_there true now (Some q) x y s is to holds = holds q (subst (λ (t : Session). EntryStands x t) (sym (is_that q s is)) to)
 ticked_there false now (Some q) x y s is to holds =
-    subst (λ (z : SessionState). StandsForSession z q) (sym holds.0) (subst (λ (t : Session). StandsForSession x t) (sym (is_that q s is)) to)
+    subst (λ (z : SessionEntry). EntryStands z q) (sym holds.0) (subst (λ (t : Session). EntryStands x t) (sym (is_that q s is)) to)
+
+entry_admits : (now : ℕ) (x : SessionEntry) (s : Session) → EntryAdmits now x → EntryStands x s → IsAdmitted now (Some s)
+entry_admits now (Going x) s admits stands = admits.1 s stands
+entry_admits now (Over cause) s admits stands = absurd admits
 
 -- a session that is left is one whose tick is not refused
-left_admits : (ticked : Bool) (now : ℕ) (between after : BTreeMap Key SessionState) (key : Key) (g : Key → Option Session) → not ticked ≡ true
+left_admits : (ticked : Bool) (now : ℕ) (between after : BTreeMap Key SessionEntry) (key : Key) (g : Key → Option Session) → not ticked ≡ true
     → AtSession between after key (Ticked now ticked) → SessionsStand between g → IsAdmitted now (g key)
 left_admits true now between after key g left one stand = cc
 left_admits false now between after key g left one stand = at (g key) refl
@@ -184,7 +190,7 @@ left_admits false now between after key g left one stand = at (g key) refl
     at (Some s) is =
         let x = in_memory between g key s stand is in
         let called = one.there x.0 x.1 in
-        called.2.1.1 s x.2
+        entry_admits now x.0 s called.2.1 x.2
 
 and_left : (a b : Bool) → (a && b) ≡ true → a ≡ true
 and_left true b e = refl
@@ -194,7 +200,7 @@ nothing_done : (now : ℕ) (p : Option Session) → option_map (reached false fa
 nothing_done now None = refl
 nothing_done now (Some s) = refl
 
-pub ticks_more : (keys : List Key) (i now short : ℕ) (key : Key) (ticked : Bool) (old between after : BTreeMap Key SessionState)
+pub ticks_more : (keys : List Key) (i now short : ℕ) (key : Key) (ticked : Bool) (old between after : BTreeMap Key SessionEntry)
     → AreDistinct keys → i < length keys → key ≡ get_or keys i key → TicksAll (take i keys) now short old between
     → AtSession between after key (Ticked now ticked) → TicksAll (take (i + 1) keys) now (short + one_if (not ticked)) old after
 ticks_more keys i now short key ticked old between after distinct small is so_far one =
@@ -248,7 +254,7 @@ ticks_more keys i now short key ticked old between after distinct small is so_fa
     grown other (inl there) = come_more keys i key other small is ∙ or_first (list_any (same_key other) (take i keys)) (same_key other key) (so_far.among other there)
     grown other (inr new) = come_more keys i key other small is ∙ or_second (list_any (same_key other) (take i keys)) (same_key other key) (and_second (not ticked) (same_key other key) new)
 
-pub ticks_none : (now : ℕ) (old : BTreeMap Key SessionState) → TicksAll [] now 0 old old
+pub ticks_none : (now : ℕ) (old : BTreeMap Key SessionEntry) → TicksAll [] now 0 old old
 ticks_none now old = record {
   left = [];
   counted = refl;

@@ -21,14 +21,16 @@ use Rattle.ra_registry.proofs.SameKeys.{same_key_other_way}
 use Rattle.ra_session.specs.Sessions.{Session}
 use Rattle.ra_session.specs.SessionCalls.{end_session, tick_session}
 use Rattle.ra_session.specs.SessionRefusals.{tick_refusal}
-use Rattle.ra_session.specs.SessionStates.{SessionState}
+use Rattle.ra_hub.specs.declared.entry.SessionEntry.{SessionEntry}
 use Rattle.ra_hub.specs.Hubs.{Hub}
 use Rattle.ra_hub.specs.Standing.{AreKeys, BothStand, SessionsStand, StandsForHub}
 use Rattle.ra_hub.specs.Sweeping.{ended_if, ended_in, EndsAll, is_going, going_keys, reached, ticked_in, IsAdmitted, TicksAll}
 use Rattle.ra_hub.specs.Sweeps.{AreDistinct, IsSwept, MayBeLeft, grace_is_over, swept, tick_one}
 use Rattle.ra_hub.proofs.AdmittedRows.{admissions_stay}
 use Rattle.ra_hub.proofs.Endings.{ended_back, reached_back}
-use Rattle.ra_hub.proofs.KeyLists.{Follows, follows_step, keys_follow, going_any, going_are, and_left, state_cause}
+use Rattle.ra_hub.proofs.KeyLists.{Follows, follows_step, keys_follow, going_any, going_are, and_left}
+use Rattle.ra_hub.proofs.OverLemmas.{cause_of}
+use Rattle.ra_hub.specs.Entries.{cause_in}
 use Rattle.ra_hub.proofs.SessionMaps.{in_memory}
 
 -- ---- the entries of the expiries
@@ -98,13 +100,13 @@ ended_some None some none = cc
 ended_some (Some cause) some none = cc
 
 -- a session in memory that goes on
-may_leave : (now : ℕ) (o : Option SessionState) (over : Bool) (p : Option Session) → BothStand o (option_map (ended_if over) p) → is_going o ≡ true
+may_leave : (now : ℕ) (o : Option SessionEntry) (over : Bool) (p : Option Session) → BothStand o (option_map (ended_if over) p) → is_going o ≡ true
     → IsAdmitted now (option_map (ended_if over) p) → MayBeLeft now over p
 may_leave now None over p both going admitted = cc
 may_leave now (Some x) over None both going admitted = absurd both
 may_leave now (Some x) true (Some s) both going admitted =
-    absurd (ended_some (end_session GraceOver s).cause (over_is_some s) (state_cause x (end_session GraceOver s) both ∙ cause_none x.cause going))
-may_leave now (Some x) false (Some s) both going admitted = (refl, state_cause x s both ∙ cause_none x.cause going, admitted)
+    absurd (ended_some (end_session GraceOver s).cause (over_is_some s) (cause_of x (end_session GraceOver s) both ∙ cause_none (cause_in x) going))
+may_leave now (Some x) false (Some s) both going admitted = (refl, cause_of x s both ∙ cause_none (cause_in x) going, admitted)
 
 some_map : (g : Session → Session) (p : Option Session) → is_some (option_map g p) ≡ is_some p
 some_map g None = refl
@@ -112,7 +114,7 @@ some_map g (Some s) = refl
 
 -- ---- the hub
 
-pub sweeps : (registry after : RegistryState) (old between new : BTreeMap Key SessionState) (keys kept : List Key) (h : Hub) (now expired short : ℕ)
+pub sweeps : (registry after : RegistryState) (old between new : BTreeMap Key SessionEntry) (keys kept : List Key) (h : Hub) (now expired short : ℕ)
     → StandsForHub registry old keys h → Expires registry now expired after → EndsAll (drop (length registry.history) after.history) old between
     → kept ≡ going_keys keys between → (AreDistinct kept → TicksAll kept now short between new)
     → (swept_hub : Hub) × StandsForHub after new kept swept_hub × IsSwept h now expired short swept_hub
@@ -178,7 +180,7 @@ sweeps registry after old between new keys kept h now expired short stands rows 
         some_unless (ended_if (has_key behind key) s).cause
         (λ none.
         let x = in_memory between (ended_in behind h.session) key (ended_if (has_key behind key) s) ended (ap (option_map (ended_if (has_key behind key))) is) in
-        true_false (sym (keys_kept.going key x.0 x.1 (sym (state_cause x.0 _ x.2) ∙ none)) ∙ apart))
+        true_false (sym (keys_kept.going key x.0 x.1 (sym (cause_of x.0 _ x.2) ∙ none)) ∙ apart))
       where
         true_false : true ≡ false → ⊥
         true_false e = cc

@@ -1,3 +1,4 @@
+pub mod Entries
 pub mod Faults
 pub mod HubCalls
 pub mod Hubs

@@ -12,7 +12,8 @@ use Rattle.ra_registry.specs.TableChanges.{has_key}
 use Rattle.ra_session.specs.Sessions.{Session}
 use Rattle.ra_session.specs.SessionCalls.{end_session}
 use Rattle.ra_session.specs.SessionRefusals.{tick_refusal}
-use Rattle.ra_session.specs.SessionStates.{SessionState}
+use Rattle.ra_hub.specs.declared.entry.SessionEntry.{SessionEntry}
+use Rattle.ra_hub.specs.Entries.{cause_in}
 use Rattle.ra_hub.specs.Standing.{SessionsStand}
 use Rattle.ra_hub.specs.Sweeps.{AreDistinct, tick_one}
 
@@ -24,16 +25,16 @@ abbrev pub ended_in : List Past → (Key → Option Session) → Key → Option 
 ended_in entries f key = option_map (ended_if (has_key entries key)) (f key)
 
 -- the sessions of these entries have ended
-abbrev pub EndsAll : List Past → BTreeMap Key SessionState → BTreeMap Key SessionState → Type 0
+abbrev pub EndsAll : List Past → BTreeMap Key SessionEntry → BTreeMap Key SessionEntry → Type 0
 EndsAll entries old new = (f : Key → Option Session) → SessionsStand old f → SessionsStand new (ended_in entries f)
 
 -- there is a session, and it has not ended
-abbrev pub is_going : Option SessionState → Bool
+abbrev pub is_going : Option SessionEntry → Bool
 is_going None = false
-is_going (Some x) = is_none x.cause
+is_going (Some x) = is_none (cause_in x)
 
 -- the keys of the sessions that have not ended, in their order
-abbrev pub going_keys : List Key → BTreeMap Key SessionState → List Key
+abbrev pub going_keys : List Key → BTreeMap Key SessionEntry → List Key
 going_keys keys sessions = filter (λ key. is_going (get key_cmp sessions key)) keys
 
 -- a session whose turn has come or not, and that found memory or not
@@ -49,7 +50,7 @@ IsAdmitted now None = Unit {0}
 IsAdmitted now (Some s) = tick_refusal now s ≡ None
 
 -- the sessions of these keys have seen the moment, but for those in `left`
-pub record TicksAll (keys : List Key) (now short : ℕ) (old new : BTreeMap Key SessionState) : Type 0 where
+pub record TicksAll (keys : List Key) (now short : ℕ) (old new : BTreeMap Key SessionEntry) : Type 0 where
   pub left : List Key
   pub counted : short ≡ length left
   pub once : AreDistinct left

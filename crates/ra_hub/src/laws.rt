@@ -11,7 +11,7 @@ ghost use Rattle.ra_registry.specs.Admission.{admission_refusal, key_of, seat_fo
 ghost use Rattle.ra_registry.specs.RegistryStates.{RegistryState};
 ghost use Rattle.ra_registry.specs.Rows.{same_key};
 ghost use Rattle.ra_session.specs.Sessions.{Session};
-ghost use Rattle.ra_session.specs.SessionStates.{SessionState};
+ghost use Rattle.ra_hub.specs.declared.entry.SessionEntry.{SessionEntry};
 ghost use Rattle.std.specs.BTreeMap.{BTreeMap};
 ghost use Rattle.ra_hub.specs.Running.{HubRuns};
 ghost use Rattle.ra_hub.specs.Standing.{StandsForHub};
@@ -44,6 +44,6 @@ pub fn records_are_over()
 
 /// Of each session of a hub that `PlainHub` stands for: it has ended, or its endpoint has not.
 pub fn sessions_run()
-    ensures { (registry : RegistryState) (sessions : BTreeMap Key SessionState) (keys : List Key) (h : Hub)
+    ensures { (registry : RegistryState) (sessions : BTreeMap Key SessionEntry) (keys : List Key) (h : Hub)
         → StandsForHub registry sessions keys h → HubRuns h }
 {}

@@ -3,6 +3,7 @@
 //! Links, bytes of a connection and handshakes are not here, and neither are threads.
 #![tactic(auto)]
 
+mod entry;
 mod fault;
 pub mod hub;
 pub mod jobs;

@@ -15,6 +15,7 @@ ghost use Rattle.ra_hub.specs.HubSeats.{Gives, Spends, Stay};
 ghost use Rattle.ra_hub.specs.KeepCauses.{HasKeepCause};
 ghost use Rattle.ra_hub.specs.Sweeps.{IsSwept};
 
+use crate::entry::SessionEntry;
 use crate::fault::HubFault;
 use crate::hub::{Hub, Swept};
 use crate::rows::{end_closed, expire, key_of, tell_nobody};
@@ -23,7 +24,7 @@ use crate::sweeping::{forget_ended, tick_all};
 use ra_base::{Cause, Key, Moment, Request, Seat};
 use ra_keep::Keeper;
 use ra_registry::Registry;
-use ra_session::{Session, Tell, Turn};
+use ra_session::{Tell, Turn};
 use std::alloc::Global;
 use std::collections::BTreeMap;
 
@@ -33,7 +34,7 @@ use std::collections::BTreeMap;
 pub struct PlainHub<R: Keeper + Drop> {
     pub(crate) keeper: R,
     pub(crate) registry: Registry,
-    pub(crate) sessions: BTreeMap<Key, Session>,
+    pub(crate) sessions: BTreeMap<Key, SessionEntry>,
     /// The keys of the sessions that had not ended at the last tick, and of those that were made since, in the order in which these
     /// were made.
     pub(crate) keys: Vec<Key>,

@@ -6,18 +6,18 @@ ghost use Rattle.ra_registry.specs.Expiry.{Expires};
 ghost use Rattle.ra_registry.specs.RowChanges as changes;
 ghost use Rattle.ra_registry.specs.Rows.{row_of};
 ghost use Rattle.ra_session.specs.SessionCalls as calls;
-ghost use Rattle.ra_session.specs.SessionStates.{SessionBecomes};
+ghost use Rattle.ra_hub.specs.Entries.{EntryBecomes};
 ghost use Rattle.ra_hub.specs.Hubs as hubs;
 ghost use Rattle.ra_hub.specs.Standing.{AtSession};
 ghost use Rattle.ra_hub.specs.Sweeping.{EndsAll};
 ghost use Rattle.ra_hub.specs.Tellings.{TellsNobody};
 
+use crate::entry::SessionEntry;
 use crate::fault::HubFault;
 use crate::sessions::{STOPPED, end_at};
 use crate::sweeping::end_all;
 use ra_base::{Cause, Key, Kind, Moment, Request, Seat};
 use ra_registry::{Registry, Row, RowState};
-use ra_session::Session;
 use std::collections::BTreeMap;
 
 /// The session that a request is about.
@@ -53,12 +53,12 @@ pub fn closes(row: Option<Row>, epoch: u64) -> bool
 /// The session of this seat ends where a close of it closes the row.
 pub(crate) fn end_closed(
     registry: &Registry,
-    sessions: &mut BTreeMap<Key, Session>,
+    sessions: &mut BTreeMap<Key, SessionEntry>,
     seat: &Seat,
     cause: Cause,
 )
     ensures closed { hubs.closes seat.now.epoch (row_of registry.now seat.now.key) ≡ true
-        → AtSession sessions.old sessions.new seat.now.key (λ x y. SessionBecomes x y (calls.end_session cause)) }
+        → AtSession sessions.old sessions.new seat.now.key (λ x y. EntryBecomes x y (calls.end_session cause)) }
     ensures open { hubs.closes seat.now.epoch (row_of registry.now seat.now.key) ≡ false → sessions.new ≡ sessions.old }
 {
     if closes(registry.row(&seat.key), seat.epoch) {
@@ -82,7 +82,7 @@ pub(crate) fn tell_nobody(registry: &mut Registry, key: &Key, now: Moment) -> Hu
 /// The rows whose grace is over expire, and their sessions end. Answers how many these are.
 pub(crate) fn expire(
     registry: &mut Registry,
-    sessions: &mut BTreeMap<Key, Session>,
+    sessions: &mut BTreeMap<Key, SessionEntry>,
     now: Moment,
 ) -> u64
     ensures rows { Expires registry.old now result registry.new }

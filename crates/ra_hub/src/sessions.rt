@@ -3,14 +3,15 @@ ghost use Rattle.std.specs.Prelude.{◌≡◌, IfOk, IfErr, OnErr, OnOk};
 ghost use Rattle.ra_session.specs.Carried.{AttachCarries, TurnCarries};
 ghost use Rattle.ra_session.specs.SessionCalls as calls;
 ghost use Rattle.ra_session.specs.SessionRefusals.{attach_refusal};
-ghost use Rattle.ra_session.specs.SessionStates.{SessionBecomes};
+ghost use Rattle.ra_hub.specs.Entries.{EntryBecomes};
 ghost use Rattle.ra_session.specs.View.{told, tell_refusal, TellFits, TurnFits};
 ghost use Rattle.ra_hub.specs.declared.fault.HubFault.TheVariants as faults;
 ghost use Rattle.ra_hub.specs.Standing.{AtSession, Called, Turned, Ticked, AddsSession, RemovesSession, SameSessions};
 
-use crate::fault::{HubFault, is_no_memory};
+use crate::entry::SessionEntry;
+use crate::fault::HubFault;
 use ra_base::{Cause, Key, Moment, Seat};
-use ra_session::{Role, Session, SessionFault, Tell, Turn};
+use ra_session::{SessionFault, Tell, Turn};
 use std::alloc::Global;
 use std::collections::BTreeMap;
 
@@ -21,7 +22,7 @@ pub(crate) const STOPPED: SessionFault = SessionFault::Ended {
 
 /// The session of a new key begins. Where there is no memory for it, nothing has changed.
 pub(crate) fn add_session(
-    sessions: &mut BTreeMap<Key, Session>,
+    sessions: &mut BTreeMap<Key, SessionEntry>,
     alloc: Global,
     key: &Key,
     now: Moment,
@@ -30,13 +31,13 @@ pub(crate) fn add_session(
     ensures same { OnErr result (SameSessions sessions.old sessions.new) }
     ensures fault { IfErr result (λ fault. fault ≡ faults.NoMemory) }
 {
-    let session = Session::new(alloc, key.kind, Role::Serving, now)?;
-    sessions.insert(key.same(), session)?;
+    let entry = SessionEntry::begin(alloc, key.kind, now)?;
+    sessions.insert(key.same(), entry)?;
     Ok(())
 }
 
 /// Takes a session out.
-pub(crate) fn remove_session(sessions: &mut BTreeMap<Key, Session>, key: &Key)
+pub(crate) fn remove_session(sessions: &mut BTreeMap<Key, SessionEntry>, key: &Key)
     ensures { RemovesSession sessions.old sessions.new key.now }
 {
     sessions.remove(key);
@@ -44,7 +45,7 @@ pub(crate) fn remove_session(sessions: &mut BTreeMap<Key, Session>, key: &Key)
 
 /// A link begins at the session of this seat.
 pub(crate) fn attach_at(
-    sessions: &mut BTreeMap<Key, Session>,
+    sessions: &mut BTreeMap<Key, SessionEntry>,
     alloc: Global,
     seat: &Seat,
     chunk: &[u8],
@@ -55,14 +56,14 @@ pub(crate) fn attach_at(
     ensures carries { IfErr result AttachCarries }
 {
     match sessions.get_mut(&seat.key) {
-        Some(session) => session.attach(alloc, seat.epoch, chunk, now),
+        Some(entry) => entry.attach(alloc, seat.epoch, chunk, now),
         None => Err(STOPPED),
     }
 }
 
 /// Bytes come to the session of this seat.
 pub(crate) fn turn_at(
-    sessions: &mut BTreeMap<Key, Session>,
+    sessions: &mut BTreeMap<Key, SessionEntry>,
     alloc: Global,
     seat: &Seat,
     piece: &[u8],
@@ -73,14 +74,14 @@ pub(crate) fn turn_at(
     ensures carries { IfErr result TurnCarries }
 {
     match sessions.get_mut(&seat.key) {
-        Some(session) => session.turn(alloc, seat.epoch, piece, now),
+        Some(entry) => entry.turn(alloc, seat.epoch, piece, now),
         None => Err(STOPPED),
     }
 }
 
 /// An application tells the session of this key something.
 pub(crate) fn tell_at(
-    sessions: &mut BTreeMap<Key, Session>,
+    sessions: &mut BTreeMap<Key, SessionEntry>,
     alloc: Global,
     key: &Key,
     tell: Tell,
@@ -90,42 +91,32 @@ pub(crate) fn tell_at(
     ensures { AtSession sessions.old sessions.new key.now (Called (tell_refusal tell) (told tell now) result) }
 {
     match sessions.get_mut(key) {
-        Some(session) => session.tell(alloc, tell, now),
+        Some(entry) => entry.tell(alloc, tell, now),
         None => Err(STOPPED),
     }
 }
 
 /// The session of this seat loses its link.
-pub(crate) fn lose_at(sessions: &mut BTreeMap<Key, Session>, seat: &Seat)
-    ensures { AtSession sessions.old sessions.new seat.now.key (λ x y. SessionBecomes x y (calls.lose_session seat.now.epoch)) }
+pub(crate) fn lose_at(sessions: &mut BTreeMap<Key, SessionEntry>, seat: &Seat)
+    ensures { AtSession sessions.old sessions.new seat.now.key (λ x y. EntryBecomes x y (calls.lose_session seat.now.epoch)) }
 {
-    if let Some(session) = sessions.get_mut(&seat.key) {
-        session.lose(seat.epoch);
+    if let Some(entry) = sessions.get_mut(&seat.key) {
+        entry.lose(seat.epoch);
     }
 }
 
 /// The session of this key ends.
-pub(crate) fn end_at(sessions: &mut BTreeMap<Key, Session>, key: &Key, cause: Cause)
-    ensures { AtSession sessions.old sessions.new key.now (λ x y. SessionBecomes x y (calls.end_session cause)) }
+pub(crate) fn end_at(sessions: &mut BTreeMap<Key, SessionEntry>, key: &Key, cause: Cause)
+    ensures { AtSession sessions.old sessions.new key.now (λ x y. EntryBecomes x y (calls.end_session cause)) }
 {
-    if let Some(session) = sessions.get_mut(key) {
-        session.end(cause);
-    }
-}
-
-/// A session sees the moment. False where it found no memory.
-fn tick(session: &mut Session, alloc: Global, now: Moment) -> bool
-    ensures { Ticked now result session.old session.new }
-{
-    match session.tick(alloc, now) {
-        Ok(_) => true,
-        Err(fault) => !is_no_memory(&fault),
+    if let Some(entry) = sessions.get_mut(key) {
+        entry.end(cause);
     }
 }
 
 /// The session of this key sees the moment. False where it found no memory.
 pub(crate) fn tick_at(
-    sessions: &mut BTreeMap<Key, Session>,
+    sessions: &mut BTreeMap<Key, SessionEntry>,
     alloc: Global,
     key: &Key,
     now: Moment,
@@ -133,7 +124,7 @@ pub(crate) fn tick_at(
     ensures { AtSession sessions.old sessions.new key.now (Ticked now result) }
 {
     match sessions.get_mut(key) {
-        Some(session) => tick(session, alloc, now),
+        Some(entry) => entry.tick(alloc, now),
         None => true,
     }
 }

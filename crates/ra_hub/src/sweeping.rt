@@ -7,15 +7,15 @@ ghost use Rattle.ra_hub.specs.Sweeping as spec;
 ghost use Rattle.ra_hub.specs.Sweeping.{EndsAll, TicksAll};
 ghost use Rattle.ra_hub.specs.Sweeps.{AreDistinct};
 
+use crate::entry::SessionEntry;
 use crate::sessions::{end_at, tick_at};
 use ra_base::{Cause, Key, Moment};
 use ra_registry::Past;
-use ra_session::Session;
 use std::alloc::Global;
 use std::collections::BTreeMap;
 
 /// The sessions of these entries end, since their grace is over.
-pub(crate) fn end_all(sessions: &mut BTreeMap<Key, Session>, entries: &[Past])
+pub(crate) fn end_all(sessions: &mut BTreeMap<Key, SessionEntry>, entries: &[Past])
     ensures { EndsAll entries.now sessions.old sessions.new }
 {
     for entry in entries {
@@ -24,17 +24,17 @@ pub(crate) fn end_all(sessions: &mut BTreeMap<Key, Session>, entries: &[Past])
 }
 
 /// Whether the session of this key is there and has not ended.
-fn is_going(sessions: &BTreeMap<Key, Session>, key: &Key) -> bool
+fn is_going(sessions: &BTreeMap<Key, SessionEntry>, key: &Key) -> bool
     ensures { result ≡ spec.is_going (get key_cmp sessions.now key.now) }
 {
     match sessions.get(key) {
-        Some(session) => session.cause().is_none(),
+        Some(entry) => entry.cause().is_none(),
         None => false,
     }
 }
 
 /// The keys of the sessions that have ended go, and the others stay in their order. It takes no memory.
-pub(crate) fn forget_ended(keys: &mut Vec<Key>, sessions: &BTreeMap<Key, Session>)
+pub(crate) fn forget_ended(keys: &mut Vec<Key>, sessions: &BTreeMap<Key, SessionEntry>)
     ensures { keys.new.items ≡ spec.going_keys keys.old.items sessions.now }
 {
     keys.retain(|key| is_going(sessions, key));
@@ -49,7 +49,7 @@ fn one_unless(ticked: bool) -> u64
 
 /// The sessions of these keys see the moment. Answers how many found no memory, and are as before.
 pub(crate) fn tick_all(
-    sessions: &mut BTreeMap<Key, Session>,
+    sessions: &mut BTreeMap<Key, SessionEntry>,
     alloc: Global,
     keys: &[Key],
     now: Moment,

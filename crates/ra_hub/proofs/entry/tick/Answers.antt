@@ -1,5 +1,5 @@
 use Rattle.ra_hub.proofs.Calling.{ticks, stays}
-use Rattle.ra_hub.proofs.sessions.tick.Goals as goal
+use Rattle.ra_hub.proofs.entry.tick.Goals as goal
 
 pub returns-in-Ok : goal.returns-in-Ok
 returns-in-Ok c = ticks c.args.now c.args.session.now c.tick.new.self c.in-Ok.ensures.stands c.in-Ok.ensures.refused
