@@ -11,7 +11,7 @@ use Rattle.ra_session.specs.Sessions.{Session}
 use Rattle.ra_hub.specs.JobLists.{jobs_in}
 use Rattle.ra_hub.specs.Jobs.{SeenJob, seen}
 use Rattle.ra_hub.specs.declared.hub.Swept.{Swept}
-use Rattle.ra_hub.specs.declared.jobs.Job.{Job}
+use Rattle.ra_hub.specs.Jobs.{JobState}
 use Rattle.ra_script.specs.declared.grand_line.GrandEvent.TheVariants as events
 use Rattle.ra_grand_runs.specs.declared.effect.GrandEffect.TheVariants as seen_effects
 use Rattle.ra_grand_runs.specs.declared.fault.GrandFault.{GrandFault}
@@ -96,12 +96,12 @@ none_there xs zero many is none = refl
 none_there xs (suc n) many is (inl e) = absurd (omega (arith, e))
 none_there xs (suc n) many is (inr large) = past xs n (omega (arith, is, large))
 
-seen_there : (jobs : List Job) (at : ℕ) (job : Job) → slice_get jobs at ≡ Some job → slice_get (map seen jobs) at ≡ Some (seen job)
+seen_there : (jobs : List JobState) (at : ℕ) (job : JobState) → slice_get jobs at ≡ Some job → slice_get (map seen jobs) at ≡ Some (seen job)
 seen_there [] at job is = absurd cc
-seen_there (x ∷ xs) zero job is = ap (λ (y : Option Job). option_map seen y) is
+seen_there (x ∷ xs) zero job is = ap (λ (y : Option JobState). option_map seen y) is
 seen_there (x ∷ xs) (suc at) job is = seen_there xs at job is
 
-job_there : (s : GrandWorld) (w : Grand) (at : ℕ) (job : Job) → StandsForGrand s w → slice_get (jobs_in s.server.jobs) at ≡ Some job → at_number w.jobs (suc at) ≡ Some (seen job)
+job_there : (s : GrandWorld) (w : Grand) (at : ℕ) (job : JobState) → StandsForGrand s w → slice_get (jobs_in s.server.jobs) at ≡ Some job → at_number w.jobs (suc at) ≡ Some (seen job)
 job_there s w at job stands is = ap (λ (js : List SeenJob). slice_get js at) (sym stands.server.jobs) ∙ seen_there (jobs_in s.server.jobs) at job is
 
 pub no_job : (s : GrandWorld) (number there : ℕ) → there ≡ length (jobs_in s.server.jobs) → IsIndex number there None
@@ -112,7 +112,7 @@ no_job s number many is none w stands =
     (ap (λ (job : Option SeenJob). of_job number w job) (none_there w.jobs number many count none) ∙ ap (λ (n : ℕ). Some (no_such_job number n)) (sym count), stands)
 
 abbrev WorksAt : ServerState → ServerState → ℕ → ℕ → Result (Unit {0}) SessionFault → Type 0
-WorksAt old new at now result = (w : Grand) (job : Job) → StandsForServer old w → w.now ≡ now → slice_get (jobs_in old.jobs) at ≡ Some job → Works result (at + 1) (seen job) new w
+WorksAt old new at now result = (w : Grand) (job : JobState) → StandsForServer old w → w.now ≡ now → slice_get (jobs_in old.jobs) at ≡ Some job → Works result (at + 1) (seen job) new w
 
 pub worked_one : (s : GrandWorld) (server : ServerState) (number at : ℕ) → number ≡ suc at → at < length (jobs_in s.server.jobs)
     → WorksAt s.server server at s.moment (Ok tt)

@@ -19,7 +19,7 @@ use Rattle.ra_hub.specs.Jobs.{SeenJob, seen}
 use Rattle.ra_hub.specs.Keeping.{Stands}
 use Rattle.ra_hub.specs.declared.fault.HubFault.{HubFault}
 use Rattle.ra_hub.specs.declared.fault.HubFault.TheVariants as faults
-use Rattle.ra_hub.specs.declared.jobs.Job.{Job}
+use Rattle.ra_hub.specs.Jobs.{JobState}
 use Rattle.ra_hub.specs.declared.jobs.JobList.{JobList}
 use Rattle.ra_hub.specs.MemHubs.{MemHub}
 use Rattle.ra_grand_runs.specs.Grands.{Grand}
@@ -156,12 +156,12 @@ kept w key t (Some r) (Some s) (Err faults.KeepFault) fault After is ends = absu
 
 -- ---- the job
 
-get_seen : (jobs : List Job) (at : ℕ) (job : Job) → slice_get jobs at ≡ Some job → slice_get (map seen jobs) at ≡ Some (seen job)
+get_seen : (jobs : List JobState) (at : ℕ) (job : JobState) → slice_get jobs at ≡ Some job → slice_get (map seen jobs) at ≡ Some (seen job)
 get_seen [] at job is = absurd cc
 get_seen (x ∷ xs) zero job is = ap (option_map seen) is
 get_seen (x ∷ xs) (suc at) job is = get_seen xs at job is
 
-without : (jobs : List Job) (at : ℕ) → map seen (take at jobs ++ drop (at + 1) jobs) ≡ take at (map seen jobs) ++ drop (at + 1) (map seen jobs)
+without : (jobs : List JobState) (at : ℕ) → map seen (take at jobs ++ drop (at + 1) jobs) ≡ take at (map seen jobs) ++ drop (at + 1) (map seen jobs)
 without jobs at =
     map-append seen (take at jobs) (drop (at + 1) jobs)
     ∙ ap (λ (xs : List SeenJob). xs ++ map seen (drop (at + 1) jobs)) (sym (take-map seen at jobs))
@@ -172,7 +172,7 @@ with_jobs : (s : ServerState) (w : Grand) (hub : MemHub) (h : Hub) (jobs : JobLi
 with_jobs s w hub h jobs js stands is same = record { hub = is; draws = stands.draws; jobs = same; places = stands.places; apart = stands.apart; ends = stands.ends }
 
 -- what came of the telling, at the moment of the world
-abbrev pub ToldNow : MemHub → ServerState → Job → ℕ → Result Unit0 HubFault → Type 0
+abbrev pub ToldNow : MemHub → ServerState → JobState → ℕ → Result Unit0 HubFault → Type 0
 ToldNow hub s job now result =
     (h : Hub) (t : Telling) → Stands s.hub h → telling (work_of job.work) ≡ Some t → ToldAt h job.key t now result (λ after. Stands hub after)
 
@@ -187,20 +187,20 @@ is_there [] at d x less is = absurd (omega (arith, less))
 is_there (y ∷ ys) zero d x less is = ap (λ z. Some z) (sym is)
 is_there (y ∷ ys) (suc at) d x less is = is_there ys at d x (omega (arith, less)) is
 
-one_job : (jobs : List Job) (at : ℕ) (job other : Job) → slice_get jobs at ≡ Some other → slice_get jobs at ≡ Some job → other ≡ job
+one_job : (jobs : List JobState) (at : ℕ) (job other : JobState) → slice_get jobs at ≡ Some other → slice_get jobs at ≡ Some job → other ≡ job
 one_job jobs at job other is that = same (sym is ∙ that)
   where
-    same : {x y : Job} → ◌≡◌ {A = Option Job} (Some x) (Some y) → x ≡ y
+    same : {x y : JobState} → ◌≡◌ {A = Option JobState} (Some x) (Some y) → x ≡ y
     same e = cc
 
 pub work_done : (s : ServerState) (hub : MemHub) (jobs : JobList) (at : ℕ) (now : ℕ) (result : Result Unit0 HubFault)
     → settled result ≡ Ok (tt) → jobs_in jobs ≡ take at (jobs_in s.jobs) ++ drop (at + 1) (jobs_in s.jobs)
-    → (there : Job) → slice_get (jobs_in s.jobs) at ≡ Some there → ToldNow hub s there now result
-    → (w : Grand) (job : Job) → StandsForServer s w → w.now ≡ now → slice_get (jobs_in s.jobs) at ≡ Some job
+    → (there : JobState) → slice_get (jobs_in s.jobs) at ≡ Some there → ToldNow hub s there now result
+    → (w : Grand) (job : JobState) → StandsForServer s w → w.now ≡ now → slice_get (jobs_in s.jobs) at ≡ Some job
     → Works (Ok (tt)) (at + 1) (seen job) (record s { hub = hub; jobs = jobs }) w
 unfolding worked
 work_done s hub jobs at now result ends left first here tells_first w job stands is there =
-    let told_now = subst (λ (j : Job). ToldNow hub s j now result) (one_job (jobs_in s.jobs) at job first here there) tells_first in
+    let told_now = subst (λ (j : JobState). ToldNow hub s j now result) (one_job (jobs_in s.jobs) at job first here there) tells_first in
     let t = telling_there job.work in
     let tells_it : told_by (seen job) w ≡ told_in t.0 (row w.hub job.key) (w.hub.session job.key) =
     ap (λ (x : Option Telling). told_to x (session_by (row w.hub job.key) (w.hub.session job.key))) t.1 in
@@ -210,7 +210,7 @@ work_done s hub jobs at now result ends left first here tells_first w job stands
     let number : at_number w.jobs (at + 1) ≡ Some (seen job) =
     ap (λ (n : ℕ). at_number w.jobs n) (next at) ∙ ap (λ (js : List SeenJob). slice_get js at) (sym stands.jobs) ∙ get_seen (jobs_in s.jobs) at job there in
     let left_are : map seen (jobs_in jobs) ≡ v.jobs =
-    ap (λ (js : List Job). map seen js) left ∙ without (jobs_in s.jobs) at ∙ ap (λ (js : List SeenJob). take at js ++ drop (at + 1) js) stands.jobs
+    ap (λ (js : List JobState). map seen js) left ∙ without (jobs_in s.jobs) at ∙ ap (λ (js : List SeenJob). take at js ++ drop (at + 1) js) stands.jobs
     ∙ ap (λ (n : ℕ). take n w.jobs ++ drop (at + 1) w.jobs) (before at) in
     let is_it : worked (at + 1) w ≡ record v { hub = made.hub } =
     ap (λ (x : Option SeenJob). work_by x (at + 1) w) number
@@ -223,11 +223,11 @@ work_done s hub jobs at now result ends left first here tells_first w job stands
     )
 
 pub work_stays : (s : ServerState) (hub : MemHub) (at : ℕ) (now : ℕ) (result : Result Unit0 HubFault) (fault : SessionFault) → settled result ≡ Err fault
-    → (there : Job) → slice_get (jobs_in s.jobs) at ≡ Some there → ToldNow hub s there now result
-    → (w : Grand) (job : Job) → StandsForServer s w → w.now ≡ now → slice_get (jobs_in s.jobs) at ≡ Some job
+    → (there : JobState) → slice_get (jobs_in s.jobs) at ≡ Some there → ToldNow hub s there now result
+    → (w : Grand) (job : JobState) → StandsForServer s w → w.now ≡ now → slice_get (jobs_in s.jobs) at ≡ Some job
     → Works (Err fault) (at + 1) (seen job) (record s { hub = hub }) w
 work_stays s hub at now result fault ends first here tells_first w job stands is there =
-    let told_now = subst (λ (j : Job). ToldNow hub s j now result) (one_job (jobs_in s.jobs) at job first here there) tells_first in
+    let told_now = subst (λ (j : JobState). ToldNow hub s j now result) (one_job (jobs_in s.jobs) at job first here there) tells_first in
     let t = telling_there job.work in
     let tells_it : told_by (seen job) w ≡ told_in t.0 (row w.hub job.key) (w.hub.session job.key) =
     ap (λ (x : Option Telling). told_to x (session_by (row w.hub job.key) (w.hub.session job.key))) t.1 in

@@ -2,7 +2,7 @@
 ghost use Rattle.std.specs.Prelude.{◌≡◌, ◌<◌, ◌+◌, ◌++◌, ◌∷◌, [], false, Some, length, take, option_map, slice_get, OnOk, OnErr};
 ghost use Rattle.ra_hub.specs.JobLists.{jobs_in};
 ghost use Rattle.ra_hub.specs.Jobs.{seen};
-ghost use Rattle.ra_hub.specs.declared.jobs.Job.{Job};
+ghost use Rattle.ra_hub.specs.Jobs.{JobState};
 ghost use Rattle.ra_link_core.specs.Makes.{outcome_of};
 ghost use Rattle.ra_link_core.specs.declared.phase.Phase.TheVariants as phases;
 ghost use Rattle.ra_opening.specs.Stands.{new_opening};
@@ -168,7 +168,7 @@ impl Server {
 
     /// The job at this place, from 0, is done by the tools, and told to its session.
     pub fn work(&mut self, at: usize, now: Moment) -> Result<(), SessionFault>
-        ensures { (w : Grand) (job : Job) → StandsForServer self.old w → w.now ≡ now → slice_get (jobs_in self.old.jobs) at ≡ Some job
+        ensures { (w : Grand) (job : JobState) → StandsForServer self.old w → w.now ≡ now → slice_get (jobs_in self.old.jobs) at ≡ Some job
             → Works result (at + 1) (seen job) self.new w }
     {
         let Some(job) = self.jobs.jobs().get(at) else {

@@ -6,11 +6,61 @@ use ra_session::Work;
 use std::alloc::Global;
 use std::marker::Model;
 
-/// What the peer of one session asks for.
+/// What the peer of one session asks for. It fits: its argument can be written.
 #[derive(Drop)]
 pub struct Job {
-    pub key: Key,
-    pub work: Work,
+    key: Key,
+    work: Work,
+}
+
+impl Model for Job {
+    ghost use Rattle.std.specs.Coded.{codes};
+    ghost use Rattle.ra_values.specs.contracts.value.Value as v;
+    ghost use Rattle.ra_hub.specs.Jobs.{JobState};
+    ghost use Rattle.ra_session.specs.View.{WorkFits};
+
+    ghost Value = { JobState };
+
+    ghost coded = { Prim.hlevel (codes, v.the_row.coded) };
+
+    ghost view = { λ j. record { key = j.key; work = j.work } };
+
+    ghost invariant = { λ j. WorkFits j.work };
+}
+
+impl Job {
+    ghost use Rattle.ra_session.specs.View.{WorkFits};
+
+    /// What the session of this key asks for. It needs an argument that fits.
+    pub fn new(key: Key, work: Work) -> Job
+        requires fits { WorkFits work }
+        ensures { result ≡ record { key = key; work = work } }
+    {
+        Job { key, work }
+    }
+
+    /// Whose session asks.
+    pub fn key(&self) -> &Key
+        ensures { result.now ≡ self.now.key }
+    {
+        &self.key
+    }
+
+    /// What it asks for.
+    pub fn work(&self) -> &Work
+        ensures work { result.now ≡ self.now.work }
+        ensures fits { WorkFits self.now.work }
+    {
+        &self.work
+    }
+
+    /// Its parts.
+    pub fn into_parts(self) -> (Key, Work)
+        ensures parts { result ≡ (self.key, self.work) }
+        ensures fits { WorkFits self.work }
+    {
+        (self.key, self.work)
+    }
 }
 
 /// Where jobs are put, in order.

@@ -5,7 +5,7 @@ use lib.ListN.{get_elem?}
 use Rattle.crossbeam_queue.specs.Fifo.{Pushes, Pops, Forks, Merges, Learns}
 use Rattle.crossbeam_queue.proofs.Lists.{at_set, at_snoc}
 use Rattle.ra_jobs.specs.declared.protocol.SeatLog.{SeatLog}
-use Rattle.ra_hub.specs.declared.jobs.Job.{Job}
+use Rattle.ra_hub.specs.Jobs.{JobState}
 use Rattle.ra_jobs.specs.Logs.{seat_log, weigh, Balanced, IdleIsEmpty, IsIdle, Within, EachWithin, Orders, Whole, put_weight}
 use Rattle.ra_jobs.specs.Orders.{InOneOrder, WholeOrder}
 use Rattle.std.proofs.Common.{inl, inr}
@@ -42,31 +42,31 @@ IdleOk v = v.parts ≡ 0 → IsIdle v
 
 -- ---- orders
 
-within_more : (xs ys : List Job) (y : Job) → Within xs ys → Within xs (ys ++ y ∷ [])
+within_more : (xs ys : List JobState) (y : JobState) → Within xs ys → Within xs (ys ++ y ∷ [])
 within_more [] ys y h = tt
 within_more (x ∷ xs) [] y h = absurd h
 within_more (x ∷ xs) (z ∷ zs) y (inl h) = inl (h.0, within_more xs zs y h.1)
 within_more (x ∷ xs) (z ∷ zs) y (inr h) = inr (within_more (x ∷ xs) zs y h)
 
-within_last : (y : Job) (ys : List Job) → Within (y ∷ []) (ys ++ y ∷ [])
+within_last : (y : JobState) (ys : List JobState) → Within (y ∷ []) (ys ++ y ∷ [])
 within_last y [] = inl (refl, tt)
 within_last y (z ∷ zs) = inr (within_last y zs)
 
-within_snoc : (xs ys : List Job) (y : Job) → Within xs ys → Within (xs ++ y ∷ []) (ys ++ y ∷ [])
+within_snoc : (xs ys : List JobState) (y : JobState) → Within xs ys → Within (xs ++ y ∷ []) (ys ++ y ∷ [])
 within_snoc [] ys y h = within_last y ys
 within_snoc (x ∷ xs) [] y h = absurd h
 within_snoc (x ∷ xs) (z ∷ zs) y (inl h) = inl (h.0, within_snoc xs zs y h.1)
 within_snoc (x ∷ xs) (z ∷ zs) y (inr h) = inr (within_snoc (x ∷ xs) zs y h)
 
-each_more : (ls : List (List Job)) (ys : List Job) (y : Job) → EachWithin ls ys → EachWithin ls (ys ++ y ∷ [])
+each_more : (ls : List (List JobState)) (ys : List JobState) (y : JobState) → EachWithin ls ys → EachWithin ls (ys ++ y ∷ [])
 each_more [] ys y h = tt
 each_more (l ∷ ls) ys y h = (within_more l ys y h.0, each_more ls ys y h.1)
 
-each_append : (ls ms : List (List Job)) (ys : List Job) → EachWithin ls ys → EachWithin ms ys → EachWithin (ls ++ ms) ys
+each_append : (ls ms : List (List JobState)) (ys : List JobState) → EachWithin ls ys → EachWithin ms ys → EachWithin (ls ++ ms) ys
 each_append [] ms ys h k = k
 each_append (l ∷ ls) ms ys h k = (h.0, each_append ls ms ys h.1 k)
 
-order_more : (log : List Job) (y : Job) (v : SeatLog) → Orders log v → Orders (log ++ y ∷ []) v
+order_more : (log : List JobState) (y : JobState) (v : SeatLog) → Orders log v → Orders (log ++ y ∷ []) v
 order_more log y v h = (within_more v.put log y h.0, each_more v.joined log y h.1)
 
 -- ---- the steps
@@ -79,7 +79,7 @@ begins = (
   ([], (λ h. refl), all_snoc (Orders []) [] (seat_log (2 ^ 62) [] [] []) (tt, tt) (λ j u e. absurd (some-ne-none u (sym e)))),
 )
 
-pub puts : (n port : ℕ) (v : SeatLog) (x : Job) → 0 < v.parts → Pushes Balanced n port v x (λ w. w ≡ seat_log v.parts (v.put ++ x ∷ []) v.joined v.taken)
+pub puts : (n port : ℕ) (v : SeatLog) (x : JobState) → 0 < v.parts → Pushes Balanced n port v x (λ w. w ≡ seat_log v.parts (v.put ++ x ∷ []) v.joined v.taken)
 puts n port v x some_part items views room b at =
     let w = seat_log v.parts (v.put ++ x ∷ []) v.joined v.taken in
     let log = b.3.0 in
@@ -202,7 +202,7 @@ alone_weighs f (x ∷ xs) (suc k) v zeros e parts idle =
 
 pub learns : (port : ℕ) (v : SeatLog) → v.parts ≡ 2 ^ 62 → Learns Balanced port v (Whole v)
 learns port v whole items views b at =
-    let taken = λ (h : Job → ℕ). alone_weighs (λ u. weigh h u.taken) views port v (λ w none. rw (none.2) refl) at (b.0 ∙ sym whole) b.2 in (
+    let taken = λ (h : JobState → ℕ). alone_weighs (λ u. weigh h u.taken) views port v (λ w none. rw (none.2) refl) at (b.0 ∙ sym whole) b.2 in (
       (λ h.
           let put = alone_weighs (put_weight h) views port v (λ w none. rw (none.0, none.1) refl) at (b.0 ∙ sym whole) b.2 in
           let t = taken h in let p = b.1 h in omega arith),
@@ -210,9 +210,9 @@ learns port v whole items views b at =
     )
 
 -- nothing is left, so the order is of what was taken
-pub settles : (v w : SeatLog) (rest items : List Job) → v ≡ seat_log w.parts w.put w.joined (w.taken ++ rest) → length items ≡ 0 → Whole v items → WholeOrder w (w.taken ++ rest)
+pub settles : (v w : SeatLog) (rest items : List JobState) → v ≡ seat_log w.parts w.put w.joined (w.taken ++ rest) → length items ≡ 0 → Whole v items → WholeOrder w (w.taken ++ rest)
 settles v w rest [] is none fact =
-    let t = λ (h : Job → ℕ). ap (λ (y : SeatLog). weigh h y.taken) is in (
+    let t = λ (h : JobState → ℕ). ap (λ (y : SeatLog). weigh h y.taken) is in (
       (λ h. let f = fact.0 h in let p : put_weight h v ≡ put_weight h w = ap (put_weight h) is in let s = t h in omega arith),
       (fact.1.0, (λ h. let f = fact.1.1 h in let s = t h in omega arith), subst (Orders fact.1.0) is fact.1.2),
     )
@@ -222,14 +222,14 @@ pub taken-snoc : (vs : List SeatLog) (v : SeatLog) → all_taken (vs ++ v ∷ []
 taken-snoc [] v = append-nil v.taken
 taken-snoc (w ∷ ws) v = ap (λ l. w.taken ++ l) (taken-snoc ws v) ∙ sym (append_assoc w.taken (all_taken ws) v.taken)
 
-pub one_order : (w : SeatLog) (puts : List (List Job)) (all : List Job) → w.put ≡ [] → w.joined ≡ puts → WholeOrder w all → InOneOrder puts all
+pub one_order : (w : SeatLog) (puts : List (List JobState)) (all : List JobState) → w.put ≡ [] → w.joined ≡ puts → WholeOrder w all → InOneOrder puts all
 one_order w puts all none is h = (
   (λ f. let a = h.0 f in let b : weigh f w.put ≡ 0 = rw none refl in let d = ap (weigh (weigh f)) is in omega arith),
   (h.1.0, h.1.1, subst (λ l. EachWithin l h.1.0) is h.1.2.1),
 )
 
 -- one seat more
-pub log_more : (v : SeatLog) (n : ℕ) (ps : List (List Job)) (vs : List SeatLog) (w : SeatLog) → w.parts ≡ 1 → w.joined ≡ []
+pub log_more : (v : SeatLog) (n : ℕ) (ps : List (List JobState)) (vs : List SeatLog) (w : SeatLog) → w.parts ≡ 1 → w.joined ≡ []
     → seat_log ((v.parts + n) + w.parts) v.put ((v.joined ++ ps) ++ w.put ∷ w.joined) ((v.taken ++ all_taken vs) ++ w.taken)
     ≡ seat_log (v.parts + (n + 1)) v.put (v.joined ++ (ps ++ w.put ∷ [])) (v.taken ++ all_taken (vs ++ w ∷ []))
 log_more v n ps vs w one none =

@@ -1,7 +1,9 @@
 //! The turns of a session over a link.
-ghost use Rattle.std.specs.Prelude.{◌≡◌, ◌<◌, ◌++◌, ℕ, List, Option, Some, None, OnOk, OnErr};
+ghost use Rattle.std.specs.Prelude.{◌≡◌, ◌<◌, ◌++◌, ℕ, List, Option, Some, None, IfSome, OnOk, OnErr};
 ghost use Rattle.ra_hub.specs.Jobs.{SeenJob};
 ghost use Rattle.ra_hub.specs.Faults.{IsOfAttach, IsOfTurn};
+ghost use Rattle.ra_session.specs.Hearing.{HappeningFits};
+ghost use Rattle.ra_session.specs.View.{TurnFits, happening_of};
 ghost use Rattle.ra_session.specs.Carried.{AttachCarries, TurnCarries};
 ghost use Rattle.ra_link_core.specs.Carried.{EndCarries, Carries};
 ghost use Rattle.ra_link_core.specs.LinkRuns.{Serving, served, turned_again, turn_ended, writes};
@@ -78,18 +80,20 @@ fn write(out: &mut Vec<u8>, bytes: &[u8]) -> Result<(), NoMemory>
 
 /// Puts what happened, if it is work.
 fn put_happened<J: JobSink>(jobs: &mut J, key: Key, happened: Happened)
-    requires { 0 < J.room jobs.old }
+    requires room { 0 < J.room jobs.old }
+    requires fits { HappeningFits (happening_of happened) }
     ensures { J.told jobs.new ≡ with_work key (Some happened) (J.told jobs.old) }
 {
     match happened {
-        Happened::Work { work } => jobs.put(Job { key, work }),
+        Happened::Work { work } => jobs.put(Job::new(key, work)),
         other => drop(other),
     }
 }
 
 /// Puts the work that happened, where some did.
 fn put_job<J: JobSink>(jobs: &mut J, key: Key, happened: Option<Happened>)
-    requires { 0 < J.room jobs.old }
+    requires room { 0 < J.room jobs.old }
+    requires fits { IfSome happened (λ h. HappeningFits (happening_of h)) }
     ensures { J.told jobs.new ≡ with_work key happened (J.told jobs.old) }
 {
     if let Some(happened) = happened {
@@ -184,6 +188,7 @@ fn take_turn<H: Hub, J: JobSink>(
 ) -> TurnStep
     requires seat { 0 < H.seats hub.old seat }
     requires room { 0 < J.room jobs.old }
+    requires fits { TurnFits turn }
     ensures holds { Holds (H.seats hub.new) (seat_after result) }
     ensures seats { Balance (Some seat) (H.seats hub.old) (seat_after result) (H.seats hub.new) }
     ensures kept { H.keep_faults hub.new ≡ H.keep_faults hub.old }

@@ -1,6 +1,6 @@
 use Rattle.std.proofs.Common.{◌≡◌, ◌∙◌, ◌^◌, Vec, Global, true≢false, ap, sym, arith}
 use Rattle.crossbeam_queue.specs.Passes.{view}
-use Rattle.ra_hub.specs.declared.jobs.Job.{Job}
+use Rattle.ra_hub.specs.Jobs.{JobState}
 use Rattle.ra_jobs.specs.declared.protocol.SeatLog.{SeatLog}
 use Rattle.ra_jobs.proofs.Moves.{takes, learns, settles}
 use Rattle.ra_jobs.proofs.queue.drain.Goals as goal
@@ -17,6 +17,6 @@ returns-clause-ok g c =
       | in-None w ↦ absurd (true≢false (sym w.in-None.ensures.steps))
       | in-Some+else-is_err+in-None-pop_as w ↦
           let held = w.in-None-pop_as.ensures.rule.1 in
-          let rest : c.match-next.rest.items ≡ c.loop.rest.items = ap (λ (v : Vec Job Global). v.items) w.rest-is ∙ w.reserve.ensures.items in
+          let rest : c.match-next.rest.items ≡ c.loop.rest.items = ap (λ (v : Vec JobState Global). v.items) w.rest-is ∙ w.reserve.ensures.items in
           rw rest (settles (view c.loop.pass) (view c.args.pass.now) c.loop.rest.items held.0 c.loop.invariant.1 held.1 held.2)
     ]

@@ -3,7 +3,7 @@ use Rattle.std.proofs.lemmas.List.{map-append}
 use Rattle.ra_jobs.specs.Logs.{seat_log}
 use Rattle.crossbeam_queue.specs.Passes.{view}
 use Rattle.ra_jobs.specs.declared.protocol.SeatLog.{SeatLog}
-use Rattle.ra_hub.specs.declared.jobs.Job.{Job}
+use Rattle.ra_hub.specs.Jobs.{JobState}
 use Rattle.ra_jobs.specs.Seats.{log_of, all_taken, put_by}
 use Rattle.ra_jobs.proofs.Moves.{merges, log_more}
 use Rattle.ra_jobs.proofs.queue.gather.Goals as goal
@@ -18,7 +18,7 @@ loop-seat-preserved g c =
     let was = c.loop-seat.invariant in
     let s = c.in-Some.seat in
     let vs : List SeatLog = map (λ s. log_of s.pass) c.loop-seat.yielded in
-    let ps : List (List Job) = map (λ s. put_by s.pass) c.loop-seat.yielded in
+    let ps : List (List JobState) = map (λ s. put_by s.pass) c.loop-seat.yielded in
     let v : SeatLog = view c.args.pass in
     let w : SeatLog = view s.pass in
     let one : w.parts ≡ 1 = s.one_part in
