@@ -12,3 +12,4 @@ pub mod Sessions
 pub mod Alike
 pub mod RunLemmas
 pub mod RequestLemmas
+pub mod HandedUpLemmas

@@ -12,5 +12,6 @@ pub mod Table
 pub mod DialerStates
 pub mod View
 pub mod Runs
+pub mod HandedUp
 pub mod Budget
 pub mod Requests

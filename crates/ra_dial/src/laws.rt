@@ -5,6 +5,11 @@ ghost use Rattle.ra_dial.specs.Clients.{Settings};
 ghost use Rattle.ra_dial.specs.Dialers.{Dialer};
 ghost use Rattle.ra_dial.specs.DialerStates.{DialerState, StandsForDialer};
 ghost use Rattle.ra_dial.specs.Handshakes.{Head, IsHeadOf};
+ghost use Rattle.ra_dial.specs.Acts.{happened};
+ghost use Rattle.ra_dial.specs.HandedUp.{HandsUp};
+ghost use Rattle.ra_dial.specs.declared.stage.Stage.TheVariants as stages;
+ghost use Rattle.ra_dial.specs.declared.values.DialEvent.TheVariants as events;
+ghost use Rattle.ra_session.specs.Hearing.{Happening};
 ghost use Rattle.ra_dial.specs.Requests.{MayRequest, IsTooMuch};
 ghost use Rattle.ra_dial.specs.Runs.{Move, moved, after, acts_of, outcomes_of, is_over, HasSession};
 ghost use Rattle.ra_dial.specs.Table.{new_dialer, step, looks_by};
@@ -44,4 +49,10 @@ pub fn requests()
         → call_refusal channel name arg d.session ≡ Some refusal → IsTooMuch refusal }
     ensures listen { (d : Dialer) (channel event : List ℕ) (arg : Tree) (refusal : Refusal) → MayRequest d
         → listen_refusal channel event arg d.session ≡ Some refusal → IsTooMuch refusal }
+{}
+
+/// What an attached dialer hands up at a frame was in the message behind those that it had heard, which then counts as heard.
+pub fn handed_up()
+    ensures { (head : Head) (draw : ℕ → List ℕ) (now : ℕ) (d : Dialer) (h : Happening) → d.stage ≡ stages.Attached
+        → (step head draw events.Frame now d).0 ≡ happened h → HandsUp now h d (step head draw events.Frame now d).1 }
 {}

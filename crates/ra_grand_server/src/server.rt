@@ -174,7 +174,7 @@ impl Server {
         let Some(job) = self.jobs.jobs().get(at) else {
             return Err(SessionFault::NoMemory);
         };
-        let told = tell_work(self.alloc, &mut self.hub, &job.key, &job.work, now);
+        let told = tell_work(self.alloc, &mut self.hub, job, now);
         settle(told)?;
         self.jobs.remove(at);
         Ok(())

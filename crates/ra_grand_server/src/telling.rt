@@ -4,14 +4,14 @@ ghost use Rattle.ra_app.specs.Effects.{ShoutFits, event_of};
 ghost use Rattle.ra_hub.specs.HubSeats.{Stay};
 ghost use Rattle.ra_hub.specs.Hubs as spec;
 ghost use Rattle.ra_hub.specs.Keeping.{Stands, seats_of};
-ghost use Rattle.ra_session.specs.View.{FireFits, TellFits, firing_of, work_of};
+ghost use Rattle.ra_session.specs.View.{FireFits, TellFits, WorkFits, firing_of, work_of};
 ghost use Rattle.ra_grand_server.specs.Tellings.{ToldAt, IsReplacement, ReplacementFits, is_too_large, settled, settled_by, telling_of};
 ghost use Rattle.ra_grand_runs.specs.Works.{Telling, fired_on, telling};
 
 use ra_app::{App, Done, Shout, Tools, too_large};
-use ra_base::{Key, Message, Moment};
+use ra_base::{Message, Moment};
 use ra_chan_server::Fire;
-use ra_hub::{Hub, HubFault, PlainHub};
+use ra_hub::{Hub, HubFault, Job, PlainHub};
 use ra_keep::MemKeeper;
 use ra_session::{SessionFault, Tell, Work};
 use ra_values::{NoMemory, Text};
@@ -37,6 +37,7 @@ fn fire_on(alloc: Global, channel: &Text, event: Option<Shout>) -> Result<Option
 
 /// What the tools make of work.
 fn tell_for(alloc: Global, work: &Work) -> Result<Tell, NoMemory>
+    requires { WorkFits work.now }
     ensures value { IfOk result (λ tell. telling (work_of work.now) ≡ Some (telling_of tell)) }
     ensures fits { IfOk result TellFits }
 {
@@ -48,9 +49,6 @@ fn tell_for(alloc: Global, work: &Work) -> Result<Tell, NoMemory>
             arg,
             cancelled,
         } => {
-            if !arg.fits() {
-                return Err(NoMemory);
-            }
             let done = Tools.call(alloc, channel, name, arg, *cancelled)?;
             let Done { answer, fire } = done;
             let fire = fire_on(alloc, channel, fire)?;
@@ -104,21 +102,21 @@ fn is_too_large(fault: &HubFault) -> bool
     )
 }
 
-/// Tells the session of the key what the tools make of its work. Where that is too large, it is told so instead.
+/// Tells the session of a job what the tools make of its work. Where that is too large, it is told so instead.
 pub(crate) fn tell_work(
     alloc: Global,
     hub: &mut PlainHub<MemKeeper>,
-    key: &Key,
-    work: &Work,
+    job: &Job,
     now: Moment,
 ) -> Result<(), HubFault>
-    ensures told { (h : spec.Hub) (t : Telling) → Stands hub.old h → telling (work_of work.now) ≡ Some t → ToldAt h key.now t now result (Stands hub.new) }
+    ensures told { (h : spec.Hub) (t : Telling) → Stands hub.old h → telling (work_of job.now.work) ≡ Some t → ToldAt h job.now.key t now result (Stands hub.new) }
     ensures seats { Stay (seats_of hub.old) (seats_of hub.new) }
 {
+    let work = job.work();
     let Ok(tell) = tell_for(alloc, work) else {
         return Err(HubFault::NoMemory);
     };
-    let Err(fault) = hub.tell(alloc, key, tell, now) else {
+    let Err(fault) = hub.tell(alloc, job.key(), tell, now) else {
         return Ok(());
     };
     if !is_too_large(&fault) {
@@ -127,7 +125,7 @@ pub(crate) fn tell_work(
     match replacement(alloc, work) {
         Err(_) => Err(HubFault::NoMemory),
         Ok(None) => Err(fault),
-        Ok(Some(tell)) => hub.tell(alloc, key, tell, now),
+        Ok(Some(tell)) => hub.tell(alloc, job.key(), tell, now),
     }
 }
 
