@@ -197,7 +197,10 @@ impl GrandWorld {
         match index_of(client, self.clients.len()) {
             None => Err(GrandFault::NoSuchClient { client }),
             Some(n) => match self.clients.cancel(n, id, self.moment) {
-                Ok(_) => Ok(GrandEffect::Cancelled),
+                Ok(outcome) => {
+                    drop(outcome);
+                    Ok(GrandEffect::Cancelled)
+                }
                 Err(fault) => Err(session_fault(fault)),
             },
         }

@@ -18,7 +18,7 @@ returns-in-Ok c =
     let same = to_z-of_z w32 c.args.id c.ranges.id in
     let asks = rw same at c.in-Ok.ensures.asks in
     λ w stands.
-    let made = asked_one c.args.self.now c.cancel.new.self c.args.client c.in-Some.n c.in-Ok.field-0 (calls.cancel (id_of c.args.id)) (sessions.cancel_refusal (id_of c.args.id))
+    let made = asked_one c.args.self.now c.cancel.new.self c.args.client c.in-Some.n c.in-Ok.outcome (calls.cancel (id_of c.args.id)) (sessions.cancel_refusal (id_of c.args.id))
     c.in-Some.ensures.0 (omega (arith, c.in-Some.ensures.1, c.len.ensures)) asks w stands in
     (made.0, refl, made.1)
 
