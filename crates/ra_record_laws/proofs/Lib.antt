@@ -1,0 +1,5 @@
+mod DueLists
+mod DueHistories
+mod QuietCalls
+mod Leading
+mod ServerLemmas
