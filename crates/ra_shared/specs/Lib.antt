@@ -1,0 +1,2 @@
+pub mod LockedCalls
+pub mod Answers

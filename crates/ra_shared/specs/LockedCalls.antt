@@ -1,0 +1,35 @@
+-- Calls of a session under its lock. What the session was like before and after one nobody but the caller can say: there are two states,
+-- and the session's own call takes the one to the other.
+use Rattle.std.specs.Prelude.{◌≡◌, ℕ, List, Bool, Result, OnOk, OnErr, IfOk, IfErr}
+use Rattle.ra_hub.specs.Standing.{Turned, Ticked}
+use Rattle.ra_session.specs.Carried.{SayCarries}
+use Rattle.ra_session.specs.SessionCalls.{attach}
+use Rattle.ra_session.specs.SessionRefusals.{Refuses, attach_refusal}
+use Rattle.ra_session.specs.SessionStates.{SessionState, StandsForSome, OfEachSession, SessionBecomes}
+use Rattle.ra_session.specs.View.{told, tell_refusal, bodies_told, is_asked}
+use Rattle.ra_session.specs.declared.values.SessionFault.{SessionFault}
+use Rattle.ra_session.specs.declared.values.Tell.{Tell}
+use Rattle.ra_session.specs.declared.values.Turn.{Turn}
+
+pub record Attached (epoch : ℕ) (chunk : List ℕ) (now : ℕ) (result : Result (Unit {0}) SessionFault) (x y : SessionState) : Type 0 where
+  pub stands : OnOk result (SessionBecomes x y (attach epoch chunk now))
+  pub refused : OfEachSession x (λ s. Refuses result (attach_refusal epoch s))
+  pub same : OnErr result (y ≡ x)
+
+pub record WasTold (tell : Tell) (now : ℕ) (result : Result (Unit {0}) SessionFault) (x y : SessionState) : Type 0 where
+  pub stands : OnOk result (SessionBecomes x y (told tell now))
+  pub refused : OfEachSession x (λ s. Refuses result (tell_refusal tell s))
+  pub carries : IfErr result (SayCarries (is_asked tell x.kind) (bodies_told tell x.server))
+  pub same : OnErr result (y ≡ x)
+
+abbrev pub AttachesSome : ℕ → List ℕ → ℕ → Result (Unit {0}) SessionFault → Type 0
+AttachesSome epoch chunk now result = (x : SessionState) × (y : SessionState) × Attached epoch chunk now result x y
+
+abbrev pub TurnsSome : ℕ → List ℕ → ℕ → Result Turn SessionFault → Type 0
+TurnsSome epoch piece now result = (x : SessionState) × (y : SessionState) × Turned epoch piece now result x y
+
+abbrev pub TellsSome : Tell → ℕ → Result (Unit {0}) SessionFault → Type 0
+TellsSome tell now result = (x : SessionState) × (y : SessionState) × WasTold tell now result x y
+
+abbrev pub TicksSome : ℕ → Bool → Type 0
+TicksSome now ticked = (x : SessionState) × (y : SessionState) × Ticked now ticked x y
