@@ -1,2 +1,4 @@
 pub mod LockedCalls
 pub mod Answers
+pub mod LastStates
+pub mod Ends
