@@ -1,7 +1,17 @@
 //! One caller of the hub that threads share.
-ghost use Rattle.std.specs.Prelude.{◌≡◌, ◌<◌, ◌++◌, vec_len};
+ghost use Rattle.std.specs.Prelude.{◌≡◌, ◌≢◌, ◌<◌, ◌≤◌, ◌++◌, ◌∷◌, [], Option, Some, None, true, vec_len, IfOk, IfErr, OnOk, OnErr, MatchOption};
 ghost use Rattle.std.specs.Vec.{vec_capacity};
-ghost use Rattle.ra_locked.specs.HandleSeats.{held_of};
+ghost use Rattle.ra_base.specs.declared.key.Seat.{Seat};
+ghost use Rattle.ra_base.specs.declared.kind.Kind.TheVariants as kinds;
+ghost use Rattle.ra_hub.specs.Faults.{IsOfAdmission, IsOfAttach, IsOfTurn, IsOfKey};
+ghost use Rattle.ra_hub.specs.HubSeats.{Gives, Spends, Stay};
+ghost use Rattle.ra_hub.specs.KeepCauses.{HasKeepCause};
+ghost use Rattle.ra_keep.specs.Causes.{next_count};
+ghost use Rattle.ra_locked.specs.HandleSeats.{held_of, attached_of};
+ghost use Rattle.ra_locked.specs.Receipts.{Gains, entry_of};
+ghost use Rattle.ra_registry.specs.declared.past.Did.TheVariants as dids;
+ghost use Rattle.ra_session.specs.View.{TellFits, TurnFits};
+ghost use Rattle.ra_shared.specs.HandleCalls.{HasReceipt, AttachLeaves, TurnLeaves, TellLeaves};
 
 use crate::answers::{KeptAnswer, Told, told_of, told_of_attach, told_of_turn};
 use crate::session::SharedSession;
@@ -35,6 +45,7 @@ const STOPPED: SessionFault = SessionFault::Ended {
 /// Keeps an answer, where it is one that is kept. There is room for it.
 fn keep(answers: &mut Vec<KeptAnswer>, key: &Key, told: Option<Told>)
     requires { vec_len answers.old < vec_capacity answers.old }
+    ensures { MatchOption told (answers.new.items ≡ answers.old.items) (λ t. answers.new.items ≡ answers.old.items ++ record { key = key.now; told = t } ∷ []) }
 {
     if let Some(told) = told {
         answers.push_reserved(KeptAnswer {
@@ -60,7 +71,17 @@ impl<R: Wait, K: Keeper + Drop, L: Ledger> Hub for HubHandle<R, K, L> {
 
     ghost keep_faults = { λ handle. handle.registry.keep_faults };
 
-    fn admit(&mut self, alloc: Global, ask: Request, now: Moment) -> Result<Seat, HubFault> {
+    fn admit(&mut self, alloc: Global, ask: Request, now: Moment) -> Result<Seat, HubFault>
+        requires { ask.kind ≢ Some kinds.Tunnel }
+        ensures given { IfOk result (λ seat. Gives seat (λ s. held_of s self.old.registry.held.items) (λ s. held_of s self.new.registry.held.items)) }
+        ensures seated { IfOk result (λ seat. 0 < held_of seat self.new.registry.held.items) }
+        ensures not_given { OnErr result (Stay (λ s. held_of s self.old.registry.held.items) (λ s. held_of s self.new.registry.held.items)) }
+        ensures fault { IfErr result IsOfAdmission }
+        ensures cause { HasKeepCause self.old.registry.keep_faults self.new.registry.keep_faults result }
+        ensures receipt { HasReceipt ask now result self.old.registry.receipts.items self.new.registry.receipts.items }
+        ensures steps { self.new.steps ≡ self.old.steps }
+        ensures answers { self.new.answers.items ≡ self.old.answers.items }
+    {
         let seat = self.registry.admit(alloc, ask, now)?;
         Ok(seat)
     }
@@ -71,7 +92,15 @@ impl<R: Wait, K: Keeper + Drop, L: Ledger> Hub for HubHandle<R, K, L> {
         seat: &Seat,
         chunk: &[u8],
         now: Moment,
-    ) -> Result<(), HubFault> {
+    ) -> Result<(), HubFault>
+        requires { 0 < held_of seat.now self.old.registry.held.items }
+        ensures fault { IfErr result IsOfAttach }
+        ensures called { AttachLeaves seat.now chunk.now now result (record { steps = self.old.steps; answers = self.old.answers.items }) (record { steps = self.new.steps; answers = self.new.answers.items }) }
+        ensures attached { OnOk result (attached_of seat.now self.new.registry.held.items ≡ true) }
+        ensures receipts { self.new.registry.receipts.items ≡ self.old.registry.receipts.items }
+        ensures seats { Stay (λ s. held_of s self.old.registry.held.items) (λ s. held_of s self.new.registry.held.items) }
+        ensures kept { self.new.registry.keep_faults ≡ self.old.registry.keep_faults }
+    {
         let HubHandle {
             registry,
             answers,
@@ -99,7 +128,15 @@ impl<R: Wait, K: Keeper + Drop, L: Ledger> Hub for HubHandle<R, K, L> {
         seat: &Seat,
         piece: &[u8],
         now: Moment,
-    ) -> Result<Turn, HubFault> {
+    ) -> Result<Turn, HubFault>
+        requires { 0 < held_of seat.now self.old.registry.held.items }
+        ensures fits { IfOk result TurnFits }
+        ensures fault { IfErr result IsOfTurn }
+        ensures called { TurnLeaves seat.now (attached_of seat.now self.old.registry.held.items) piece.now now result (record { steps = self.old.steps; answers = self.old.answers.items }) (record { steps = self.new.steps; answers = self.new.answers.items }) }
+        ensures receipts { self.new.registry.receipts.items ≡ self.old.registry.receipts.items }
+        ensures seats { Stay (λ s. held_of s self.old.registry.held.items) (λ s. held_of s self.new.registry.held.items) }
+        ensures kept { self.new.registry.keep_faults ≡ self.old.registry.keep_faults }
+    {
         let HubHandle {
             registry,
             answers,
@@ -119,7 +156,13 @@ impl<R: Wait, K: Keeper + Drop, L: Ledger> Hub for HubHandle<R, K, L> {
         }
     }
 
-    fn tell(&mut self, alloc: Global, key: &Key, tell: Tell, now: Moment) -> Result<(), HubFault> {
+    fn tell(&mut self, alloc: Global, key: &Key, tell: Tell, now: Moment) -> Result<(), HubFault>
+        requires { TellFits tell }
+        ensures fault { IfErr result IsOfKey }
+        ensures called { TellLeaves key.now tell now result (record { steps = self.old.steps; answers = self.old.answers.items }) (record { steps = self.new.steps; answers = self.new.answers.items }) self.old.registry.receipts.items self.new.registry.receipts.items }
+        ensures seats { Stay (λ s. held_of s self.old.registry.held.items) (λ s. held_of s self.new.registry.held.items) }
+        ensures kept { self.new.registry.keep_faults ≡ self.old.registry.keep_faults }
+    {
         let HubHandle {
             registry,
             answers,
@@ -145,17 +188,36 @@ impl<R: Wait, K: Keeper + Drop, L: Ledger> Hub for HubHandle<R, K, L> {
         }
     }
 
-    fn lost(&mut self, seat: Seat, now: Moment) {
+    fn lost(&mut self, seat: Seat, now: Moment)
+        requires { 0 < held_of seat self.old.registry.held.items }
+        ensures spent { Spends seat (λ s. held_of s self.old.registry.held.items) (λ s. held_of s self.new.registry.held.items) }
+        ensures receipt { Gains (entry_of seat.key now (dids.Lost seat.epoch)) self.old.registry.receipts.items self.new.registry.receipts.items }
+        ensures steps { self.new.steps ≡ next_count self.old.steps }
+        ensures answers { self.new.answers.items ≡ self.old.answers.items }
+        ensures kept { self.new.registry.keep_faults ≡ self.old.registry.keep_faults }
+    {
         self.steps = self.steps.saturating_add(1);
         self.registry.lost(seat, now);
     }
 
-    fn close(&mut self, seat: Seat, cause: Cause, now: Moment) {
+    fn close(&mut self, seat: Seat, cause: Cause, now: Moment)
+        requires { 0 < held_of seat self.old.registry.held.items }
+        ensures spent { Spends seat (λ s. held_of s self.old.registry.held.items) (λ s. held_of s self.new.registry.held.items) }
+        ensures receipt { Gains (entry_of seat.key now (dids.Closed seat.epoch cause)) self.old.registry.receipts.items self.new.registry.receipts.items }
+        ensures steps { self.new.steps ≡ next_count self.old.steps }
+        ensures answers { self.new.answers.items ≡ self.old.answers.items }
+        ensures kept { self.new.registry.keep_faults ≡ self.old.registry.keep_faults }
+    {
         self.steps = self.steps.saturating_add(1);
         self.registry.close(seat, cause, now);
     }
 
-    fn tick(&mut self, alloc: Global, now: Moment) -> Swept {
+    fn tick(&mut self, alloc: Global, now: Moment) -> Swept
+        ensures receipts { self.new.registry.receipts.items ≡ self.old.registry.receipts.items }
+        ensures answers { self.new.answers.items ≡ self.old.answers.items }
+        ensures seats { Stay (λ s. held_of s self.old.registry.held.items) (λ s. held_of s self.new.registry.held.items) }
+        ensures kept { self.new.registry.keep_faults ≡ self.old.registry.keep_faults }
+    {
         let HubHandle {
             registry,
             answers: _,
