@@ -1,12 +1,15 @@
 -- Calls of a session under its lock. What the session was like before and after one nobody but the caller can say: there are two states,
 -- and the session's own call takes the one to the other.
 use Rattle.std.specs.Prelude.{◌≡◌, ℕ, List, Bool, Result, OnOk, OnErr, IfOk, IfErr}
-use Rattle.ra_hub.specs.Standing.{Turned, Ticked}
+use Rattle.ra_hub.specs.Standing.{Ticked}
+use Rattle.ra_hub.specs.declared.entry.SessionEntry.TheVariants.{Going}
 use Rattle.ra_session.specs.Carried.{SayCarries}
 use Rattle.ra_session.specs.SessionCalls.{attach}
 use Rattle.ra_session.specs.SessionRefusals.{Refuses, attach_refusal}
 use Rattle.ra_session.specs.SessionStates.{SessionState, StandsForSome, OfEachSession, SessionBecomes}
-use Rattle.ra_session.specs.View.{told, tell_refusal, bodies_told, is_asked}
+use Rattle.ra_session.specs.TurnRefusals.{TurnLeaves, turn_refusal}
+use Rattle.ra_session.specs.Turns.{turn, turn_answer}
+use Rattle.ra_session.specs.View.{told, tell_refusal, bodies_told, is_asked, turn_of}
 use Rattle.ra_session.specs.declared.values.SessionFault.{SessionFault}
 use Rattle.ra_session.specs.declared.values.Tell.{Tell}
 use Rattle.ra_session.specs.declared.values.Turn.{Turn}
@@ -15,6 +18,11 @@ pub record Attached (epoch : ℕ) (chunk : List ℕ) (now : ℕ) (result : Resul
   pub stands : OnOk result (SessionBecomes x y (attach epoch chunk now))
   pub refused : OfEachSession x (λ s. Refuses result (attach_refusal epoch s))
   pub same : OnErr result (y ≡ x)
+
+pub record Turned (epoch : ℕ) (piece : List ℕ) (now : ℕ) (result : Result Turn SessionFault) (x y : SessionState) : Type 0 where
+  pub leaves : TurnLeaves result (SessionBecomes x y (turn epoch piece now)) (y ≡ x)
+  pub answered : IfOk result (λ t. OfEachSession x (λ s. turn_of t ≡ turn_answer epoch piece now s))
+  pub refused : OfEachSession x (λ s. Refuses result (turn_refusal epoch piece now s))
 
 pub record WasTold (tell : Tell) (now : ℕ) (result : Result (Unit {0}) SessionFault) (x y : SessionState) : Type 0 where
   pub stands : OnOk result (SessionBecomes x y (told tell now))
@@ -32,4 +40,4 @@ abbrev pub TellsSome : Tell → ℕ → Result (Unit {0}) SessionFault → Type 
 TellsSome tell now result = (x : SessionState) × (y : SessionState) × WasTold tell now result x y
 
 abbrev pub TicksSome : ℕ → Bool → Type 0
-TicksSome now ticked = (x : SessionState) × (y : SessionState) × Ticked now ticked x y
+TicksSome now ticked = (x : SessionState) × (y : SessionState) × Ticked now ticked (Going x) (Going y)

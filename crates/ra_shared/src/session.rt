@@ -1,6 +1,7 @@
 //! A session that threads share, behind a lock of its own.
 ghost use Rattle.std.specs.Prelude.{◌≡◌, IfOk, IfErr};
 ghost use Rattle.ra_hub.specs.Standing.{Ticked};
+ghost use Rattle.ra_hub.specs.declared.entry.SessionEntry.TheVariants.{Going};
 ghost use Rattle.ra_session.specs.Carried.{AttachCarries, TurnCarries};
 ghost use Rattle.ra_session.specs.View.{TellFits, TurnFits};
 ghost use Rattle.ra_shared.specs.LockedCalls.{AttachesSome, TurnsSome, TellsSome, TicksSome};
@@ -44,7 +45,7 @@ impl SessionHandle for SharedSession {
 
 /// A session sees the moment. False where it found no memory.
 fn tick(session: &mut Session, alloc: Global, now: Moment) -> bool
-    ensures { Ticked now result session.old session.new }
+    ensures { Ticked now result (Going session.old) (Going session.new) }
 {
     match session.tick(alloc, now) {
         Ok(_) => true,
