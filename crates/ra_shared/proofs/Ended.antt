@@ -1,5 +1,5 @@
 -- The end of a hub that threads share.
-use Rattle.std.proofs.Common.{◌≡◌, ◌≢◌, ◌<◌, ℕ, List, [], ◌∷◌, map, length, slice_get, Some, sym, ap, subst, ◌∙◌, arith, zero, suc, get_or}
+use Rattle.std.proofs.Common.{◌≡◌, ◌<◌, ℕ, List, [], ◌∷◌, map, length, slice_get, Some, sym, ap, subst, arith, zero, suc, get_or}
 use Rattle.ra_locked.specs.EndFaults as registry
 use Rattle.ra_locked.specs.declared.fault.EndFault.{EndFault}
 use Rattle.ra_locked.specs.declared.fault.EndFault.TheVariants.{NotAll, Mismatch, Twice, KeepUnlike, NoMemory}

@@ -1,5 +1,5 @@
 -- A seat that was given more is there.
-use Rattle.std.proofs.Common.{◌≡◌, ◌&&◌, ◌++◌, true, Bool, ℕ, ◌<◌, eqb, refl, ap, ◌∙◌, arith, List, length, take, drop}
+use Rattle.std.proofs.Common.{◌≡◌, ◌&&◌, ◌++◌, true, ℕ, ◌<◌, eqb, refl, ap, ◌∙◌, arith, List, length, take, drop}
 use Rattle.std.proofs.Math.Seq.{take-append_seam}
 use borrow.Author.Tests.{eq-eqb}
 use Rattle.ra_base.specs.declared.key.Seat.{Seat}

@@ -1,6 +1,5 @@
 -- Answers of sessions that a handle keeps, and what bears them out.
 use Rattle.std.specs.Prelude.{◌≡◌, ℕ, ◌-◌, ◌^◌, ◌≤◌, ◌<◌, Bool, true, Option, Some, None}
-use Rattle.ra_base.specs.declared.key.Cause.{Cause}
 use Rattle.ra_session.specs.declared.values.SessionFault.{SessionFault}
 use Rattle.ra_session.specs.declared.values.SessionFault.TheVariants as faults
 use Rattle.ra_shared.specs.declared.answers.LastState.{LastState}

@@ -2,7 +2,6 @@
 use Rattle.std.specs.Prelude.{◌≡◌, ◌≢◌, ℕ, ◌<◌, List, Some, slice_get, length}
 use Rattle.ra_registry.specs.RegistryStates.{RegistryState}
 use Rattle.ra_registry.specs.declared.registry.RegistryParts.{RegistryParts}
-use Rattle.ra_locked.specs.declared.fault.EndFault.{EndFault}
 use Rattle.ra_locked.specs.declared.fault.EndFault.TheVariants.{NotAll, Mismatch, Twice, KeepUnlike, NoMemory}
 use Rattle.ra_shared.specs.Answers.{Bears}
 use Rattle.ra_shared.specs.declared.answers.KeptAnswer.{KeptAnswer}

@@ -11,7 +11,6 @@ use Rattle.ra_locked.specs.Receipts.{Gains, entry_of}
 use Rattle.ra_locked.specs.declared.receipt.Receipt.{Receipt}
 use Rattle.ra_registry.specs.Admission.{key_of, entry_for, refusal_entry}
 use Rattle.ra_registry.specs.declared.past.Did.TheVariants.{Admitted, Missed}
-use Rattle.ra_session.specs.declared.values.SessionFault.{SessionFault}
 use Rattle.ra_session.specs.declared.values.SessionFault.TheVariants.{Ended}
 use Rattle.ra_session.specs.declared.values.Tell.{Tell}
 use Rattle.ra_session.specs.declared.values.Turn.{Turn}
@@ -67,8 +66,8 @@ abbrev pub TellLeaves : Key → Tell → ℕ → Result (Unit {0}) HubFault → 
 TellLeaves key tell now (Ok r) before after old new = TellsSome tell now (Ok r) × Steps key None before after × (new ≡ old)
 TellLeaves key tell now (Err (Session fault)) before after old new =
     ((TellsSome tell now (Err fault) × Steps key (told_of fault) before after)
-        ⊎ ((fault ≡ Ended Stopped)
-            × (after ≡ record before { answers = before.answers ++ record { key = key; told = declared.Ended Stopped } ∷ [] })))
+    ⊎ ((fault ≡ Ended Stopped)
+    × (after ≡ record before { answers = before.answers ++ record { key = key; told = declared.Ended Stopped } ∷ [] })))
     × (new ≡ old)
 TellLeaves key tell now (Err NoSession) before after old new = (after ≡ before) × Gains (entry_of key now Missed) old new
 TellLeaves key tell now (Err (Refused reason)) before after old new = ⊥

@@ -6,7 +6,7 @@ use Rattle.ra_hub.specs.declared.entry.SessionEntry.TheVariants.{Going}
 use Rattle.ra_session.specs.Carried.{SayCarries}
 use Rattle.ra_session.specs.SessionCalls.{attach}
 use Rattle.ra_session.specs.SessionRefusals.{Refuses, attach_refusal}
-use Rattle.ra_session.specs.SessionStates.{SessionState, StandsForSome, OfEachSession, SessionBecomes}
+use Rattle.ra_session.specs.SessionStates.{SessionState, OfEachSession, SessionBecomes}
 use Rattle.ra_session.specs.TurnRefusals.{TurnLeaves, turn_refusal}
 use Rattle.ra_session.specs.Turns.{turn, turn_answer}
 use Rattle.ra_session.specs.View.{told, tell_refusal, bodies_told, is_asked, turn_of}

@@ -150,7 +150,11 @@ impl<R: Wait, K: Keeper + Drop, L: Ledger> Hub for HubHandle<R, K, L> {
             Ok(turn) => Ok(turn),
             Err(fault) => {
                 let attached = is_attached(registry.held.as_slice(), seat);
-                keep(answers, &seat.key, told_of_turn(&fault, seat.epoch, attached));
+                keep(
+                    answers,
+                    &seat.key,
+                    told_of_turn(&fault, seat.epoch, attached),
+                );
                 Err(HubFault::Session { fault })
             }
         }

@@ -58,8 +58,7 @@ impl<R: Wait + Copy, K: Keeper + Drop, L: Ledger> SharedHub<R, K, L> {
         ensures none { IfOk result (λ hub. hub.registry.made ≡ 0) }
         ensures failed { IfErr result (λ fault. fault.fault ≡ keep.Failed → Rose (K.faults keeper) (K.faults fault.keeper)) }
     {
-        let registry =
-            SharedRegistry::start(rt, alloc, entries, keeper, long_grace, short_grace)?;
+        let registry = SharedRegistry::start(rt, alloc, entries, keeper, long_grace, short_grace)?;
         Ok(SharedHub {
             rt,
             alloc,
@@ -94,10 +93,7 @@ impl<R: Wait + Copy, K: Keeper + Drop, L: Ledger> SharedHub<R, K, L> {
     /// it is Ok, each handle's receipts stand in the history in the order of its calls, each entry but an expiry is the receipt of one
     /// handle, and each kept answer is borne out. The first cause against that comes, in the order NotAll, Mismatch or Twice, Untrue,
     /// KeepUnlike. Want of memory may come in place of each of these but NotAll.
-    pub fn finish(
-        self,
-        handles: Vec<HubHandle<R, K, L>>,
-    ) -> Result<Finished<K>, FinishFault>
+    pub fn finish(self, handles: Vec<HubHandle<R, K, L>>) -> Result<Finished<K>, FinishFault>
         requires { L.parts ≡ 2 ^ 62 }
         ensures legal { IfOk result (λ f. IsLegal (registry_of f.registry)) }
         ensures receipts { IfOk result (λ f. AreReceiptsOf f.registry.history.items (map (λ h. h.registry.receipts.items) handles.items)) }
@@ -127,7 +123,10 @@ impl<R: Wait + Copy, K: Keeper + Drop, L: Ledger> SharedHub<R, K, L> {
             Err(fault) => return Err(FinishFault::of(fault)),
         };
         let agree = ended.keep_faults_agree();
-        let EndedRegistry { locked, answered: _ } = ended;
+        let EndedRegistry {
+            locked,
+            answered: _,
+        } = ended;
         let LockedParts {
             registry,
             keeper,

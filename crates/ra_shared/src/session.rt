@@ -66,9 +66,7 @@ impl SharedSession {
         ensures called { AttachesSome epoch chunk.now now result }
         ensures carries { IfErr result AttachCarries }
     {
-        self.session
-            .lock(rt)
-            .attach(alloc, epoch, chunk, now)
+        self.session.lock(rt).attach(alloc, epoch, chunk, now)
     }
 
     /// Bytes come, and one frame is applied.

@@ -1,4 +1,4 @@
-use Rattle.std.proofs.Common.{◌≡◌, length, arith}
+use Rattle.std.proofs.Common.{arith}
 use Rattle.ra_locked.specs.HandleSeats.{held_of}
 use Rattle.ra_shared.proofs.Seated.{written}
 use Rattle.ra_shared.proofs.handle.HubHandleHub.attach.Goals as goal

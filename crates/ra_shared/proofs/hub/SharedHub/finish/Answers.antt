@@ -1,7 +1,6 @@
-use Rattle.std.proofs.Common.{◌≡◌, ◌-◌, ◌^◌, List, ℕ, length, map, ap, sym, subst, ◌∙◌, arith, min, sum, ◌≤◌, ◌<◌}
+use Rattle.std.proofs.Common.{◌≡◌, List, length, map, ap, arith}
 use Rattle.std.proofs.lemmas.List.{length-map}
 use Rattle.std.proofs.lemmas.Simd.{map-map}
-use Rattle.ra_locked.specs.declared.receipt.Receipt.{Receipt}
 use Rattle.ra_shared.specs.declared.answers.KeptAnswer.{KeptAnswer}
 use Rattle.ra_shared.proofs.Ended.{of_registry, of_answers}
 use Rattle.ra_shared.proofs.hub.SharedHub.finish.Goals as goal
