@@ -4,7 +4,7 @@ ghost use Rattle.ra_hub.specs.Standing.{Ticked};
 ghost use Rattle.ra_hub.specs.declared.entry.SessionEntry.TheVariants.{Going};
 ghost use Rattle.ra_session.specs.Carried.{AttachCarries, TurnCarries};
 ghost use Rattle.ra_session.specs.View.{TellFits, TurnFits};
-ghost use Rattle.ra_shared.specs.LockedCalls.{AttachesSome, TurnsSome, TellsSome, TicksSome};
+ghost use Rattle.ra_shared.specs.LockedCalls.{AttachesSome, TurnsSome, TellsSome, TicksSome, IsStateOfSome};
 
 use crate::answers::LastState;
 use ra_base::{Cause, Kind, Moment, NoMemory};
@@ -108,7 +108,9 @@ impl SharedSession {
     }
 
     /// What it is like: the number of its last link, its last ids, and why it has ended.
-    pub fn state<R: Wait>(&self, rt: &R) -> LastState {
+    pub fn state<R: Wait>(&self, rt: &R) -> LastState
+        ensures { IsStateOfSome result }
+    {
         let session = self.session.lock(rt);
         LastState {
             epoch: session.epoch(),
