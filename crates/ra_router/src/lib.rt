@@ -5,7 +5,12 @@
 //! when, are definitions and laws.
 #![tactic(auto)]
 
+pub mod acts;
 pub mod ask;
 pub mod laws;
+pub mod router;
+mod window;
 
+pub use acts::Acts;
 pub use ask::{Ask, Said, Step, Told};
+pub use router::Router;
