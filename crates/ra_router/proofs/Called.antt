@@ -1,5 +1,5 @@
 -- A call to a window: its hop is handed over, or waits.
-use Rattle.std.proofs.Common.{◌≡◌, ◌≢◌, ℕ, ◌+◌, ◌≤◌, ◌<◌, Bool, true, false, true≢false, cond, zero, suc, List, [], ◌∷◌, ◌++◌, length, drop, refl, sym, ap, subst, ◌∙◌, arith}
+use Rattle.std.proofs.Common.{◌≡◌, ◌≢◌, ℕ, ◌+◌, ◌≤◌, ◌<◌, ◌&&◌, Bool, true, false, true≢false, cond, zero, suc, List, [], ◌∷◌, ◌++◌, length, drop, refl, sym, ap, subst, ◌∙◌, arith}
 use Rattle.std.specs.Prelude.{ℤ, map, slice_get, Option, Some, None, option_map, nat_lt, ◌==◌, bytes_eq}
 use Rattle.std.proofs.lemmas.Bool.{lt-ltb, eqb-true, eq-eqb}
 use Rattle.std.specs.BTreeMap.{get}
@@ -167,17 +167,17 @@ hands_over made windows after out outs past caller window id waits arg kept low 
     tells : given past x ≡ give first_call.call (Hop (length (hops past)) arg) ∷ []
     tells = over_is past caller window id arg (Some first_call.call) room at
 
-    asked : (slice_get past first_call.call.place ≡ Some first_call.call.step) × (_ ≡ true)
+    asked : (slice_get past first_call.call.place ≡ Some first_call.call.step) × ((is_next first_call.call.step.ask && (bytes_eq first_call.call.step.from window)) ≡ true)
     asked = next_there window past (length (hops_for window past)) first_call.call at
-
-    told_is : record { key = window; id = waits; said = Hop made arg } ∷ [] ≡ (give first_call.call (Hop (length (hops past)) arg)).told ∷ []
-    told_is =
-        ap (λ (k : List ℕ). told_one k waits made) (sym (bytes_same first_call.call.step.from window (and_right _ _ asked.1)))
-        ∙ ap (λ (k : ℤ). told_one first_call.call.step.from k made) (sym first_call.is)
-        ∙ ap (told_one first_call.call.step.from first_call.call.step.id) s.made_is
 
     told_one : List ℕ → ℤ → ℕ → List Told
     told_one key k n = record { key = key; id = k; said = Hop n arg } ∷ []
+
+    told_is : record { key = window; id = waits; said = Hop made arg } ∷ [] ≡ (give first_call.call (Hop (length (hops past)) arg)).told ∷ []
+    told_is =
+        ap (λ (k : List ℕ). told_one k waits made) (sym (bytes_same first_call.call.step.from window (and_right (is_next first_call.call.step.ask) (bytes_eq first_call.call.step.from window) asked.1)))
+        ∙ ap (λ (k : ℤ). told_one first_call.call.step.from k made) (sym first_call.is)
+        ∙ ap (told_one first_call.call.step.from first_call.call.step.id) s.made_is
 
     waiting_less : (w : List ℕ) → waiting w whole ≡ cond (bytes_eq window w) (drop 1 (waiting w past)) (waiting w past)
     waiting_less w =
@@ -197,7 +197,7 @@ hands_over made windows after out outs past caller window id waits arg kept low 
 
     news : (n : ℕ) → (made == n) ≡ false → IsNoNews past x n
     news n apart next value zero e =
-        let same : length (hops past) ≡ n = ap (λ (k : Given). number_of k.told.said) (same_some _ _ (ap (λ (l : List Given). slice_get l 0) (sym tells) ∙ e)) in
+        let same : length (hops past) ≡ n = ap (λ (k : Given). number_of k.told.said) (same_some (give first_call.call (Hop (length (hops past)) arg)) (give next (Hop n value)) (ap (λ (l : List Given). slice_get l 0) (sym tells) ∙ e)) in
         true≢false (sym (eq-eqb made n (s.made_is ∙ same)) ∙ apart)
     news n apart next value (suc j) e = gone j (ap (λ (l : List Given). slice_get l (suc j)) (sym tells) ∙ e)
       where
@@ -207,7 +207,7 @@ hands_over made windows after out outs past caller window id waits arg kept low 
     now_out : unsettled whole made ≡ Some here
     now_out =
         now_unsettled past x made here first_call.call arg 0 (ap (slice_get (hops whole)) s.made_is ∙ hop_gained past [] x refl room)
-        (get_left past (x ∷ []) first_call.call.place first_call.call.step asked.0) (and_left _ _ asked.1)
+        (get_left past (x ∷ []) first_call.call.place first_call.call.step asked.0) (and_left (is_next first_call.call.step.ask) (bytes_eq first_call.call.step.from window) asked.1)
         (ap (λ (l : List Given). slice_get l 0) tells ∙ ap (λ (k : ℕ). Some (give first_call.call (Hop k arg))) (sym s.made_is))
 
     out_on : (n : ℕ) (b : Bool) → (made == n) ≡ b → cond (made == n) (Some kept) (get nat_cmp out n) ≡ option_map out_of (unsettled whole n)

@@ -13,3 +13,5 @@ pub mod Unsettled
 pub mod Kept
 pub mod Quiet
 pub mod Called
+pub mod Asked
+pub mod Settling

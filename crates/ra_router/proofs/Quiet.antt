@@ -40,7 +40,7 @@ quiet made windows out after past x s same asks outs = record {
 
 -- ---- answers that hand nothing over
 
-is_hop : Said → Bool
+pub is_hop : Said → Bool
 is_hop (Hop n arg) = true
 is_hop _ = false
 

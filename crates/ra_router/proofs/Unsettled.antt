@@ -2,7 +2,7 @@
 use Rattle.std.proofs.Common.{◌≡◌, ◌⊎◌, ℕ, ◌<◌, ◌≤◌, ◌||◌, Bool, true, false, cond, zero, suc, List, [], ◌∷◌, ◌++◌, length, take, drop, refl, sym, ap, subst, ◌∙◌, inl, inr, arith}
 use Rattle.std.specs.Prelude.{slice_get, Option, Some, None}
 use Rattle.std.specs.List.{list_any}
-use Rattle.std.proofs.lemmas.List.{take-append_seam}
+use Rattle.std.proofs.Math.Seq.{take-append_seam}
 use Rattle.ra_values.specs.declared.value.Value.{Value}
 use Rattle.ra_router.specs.declared.ask.Ask.TheVariants.{Next}
 use Rattle.ra_router.specs.declared.ask.Step.{Step}
@@ -82,7 +82,7 @@ cases (suc m) (suc n) le = elim (cases m n (omega arith)) [
   | inr e ↦ inr (ap suc e)
 ]
 
-no_delivery : (past : List Step) (x : Step) (n : ℕ) → delivery past n ≡ None → IsNoNews past x n → (o : Option Delivery) → delivery (past ++ x ∷ []) n ≡ o → o ≡ None
+pub no_delivery : (past : List Step) (x : Step) (n : ℕ) → delivery past n ≡ None → IsNoNews past x n → (o : Option Delivery) → delivery (past ++ x ∷ []) n ≡ o → o ≡ None
 no_delivery past x n none news None o = refl
 no_delivery past x n none news (Some d) o =
     let inside = delivered_inside (past ++ x ∷ []) n d o in

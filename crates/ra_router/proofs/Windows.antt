@@ -1,9 +1,14 @@
 -- The queues of windows, when those of one change.
 use Rattle.std.proofs.Common.{◌≡◌, ℕ, Bool, true, false, cond, List, Result, Ok, Err, OnErr, refl, sym, ap, subst, ◌∙◌}
-use Rattle.std.specs.Prelude.{bytes_eq, Option, Some, None}
+use Rattle.std.specs.Prelude.{bytes_eq, ◌==◌, Option, Some, None}
+use Rattle.std.specs.Cmp.{unsigned_ties}
 use Rattle.std.specs.BTreeMap.{BTreeMap, get, is_at}
 use Rattle.std.specs.Ordering.{nat_cmp}
 use Rattle.std.specs.Cmp.Lexicographic.{slice_cmp, texts_ties}
+use Rattle.std.specs.Prelude.{ℤ}
+use Rattle.ra_values.specs.declared.value.Value.{Value}
+use Rattle.ra_router.specs.declared.window.Held.{Held}
+use Rattle.ra_router.specs.declared.window.Out.{Out}
 use Rattle.ra_router.specs.declared.window.Window.{Window}
 use Rattle.ra_router.proofs.Bytes.{bytes_same}
 
@@ -39,3 +44,14 @@ kept f old new k before after was sets is w =
 pub on_err : {A E P : Type 0} (r : Result A E) → P → OnErr r P
 on_err (Ok x) p = tt
 on_err (Err e) p = p
+
+-- a map by numbers, where one is set
+pub set_number : {A : Type 0} (old new : BTreeMap ℕ A) (k : ℕ) (o : Option A)
+    → ((n : ℕ) → get nat_cmp new n ≡ cond (is_at (nat_cmp k) n) o (get nat_cmp old n)) → (n : ℕ) → get nat_cmp new n ≡ cond (k == n) o (get nat_cmp old n)
+set_number old new k o sets n = sets n ∙ ap (λ (b : Bool). cond b o (get nat_cmp old n)) (sym (unsigned_ties k n))
+
+abbrev pub held_with : ℕ → List ℕ → ℤ → Value → Held
+held_with number caller id arg = record { number = number; caller = caller; id = id; arg = arg }
+
+abbrev pub out_with : List ℕ → List ℕ → ℤ → Out
+out_with window caller id = record { window = window; caller = caller; id = id }

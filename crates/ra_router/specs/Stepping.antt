@@ -3,6 +3,7 @@ use Rattle.std.specs.Prelude.{◌≡◌, ℕ, ℤ, List, [], ◌∷◌, ◌++◌
 use Rattle.ra_router.specs.declared.acts.Acts.{Acts}
 use Rattle.ra_router.specs.declared.acts.Acts.TheVariants.{Nothing, One, Two}
 use Rattle.ra_router.specs.declared.ask.Ask.{Ask}
+use Rattle.ra_router.specs.declared.ask.Said.{Said}
 use Rattle.ra_router.specs.declared.ask.Step.{Step}
 use Rattle.ra_router.specs.declared.ask.Told.{Told}
 use Rattle.ra_router.specs.declared.router.Router.{Router}
@@ -16,6 +17,9 @@ abbrev pub told_by : Acts → List Told
 told_by Nothing = []
 told_by (One t) = t ∷ []
 told_by (Two first second) = first ∷ second ∷ []
+
+abbrev pub alone : List ℕ → ℤ → Said → Acts
+alone key id said = One (record { key = key; id = id; said = said })
 
 -- the router stands for these steps
 abbrev pub StandsFor : Router → List Step → Type 0

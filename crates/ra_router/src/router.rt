@@ -7,7 +7,7 @@ ghost use Rattle.ra_router.specs.declared.ask.Step.{Step};
 ghost use Rattle.ra_router.specs.declared.ask.Ask.TheVariants as asks;
 ghost use Rattle.ra_router.specs.Hops.{told};
 ghost use Rattle.ra_router.specs.Standing.{Windows, Outs, Stands, calls_at, settled_by};
-ghost use Rattle.ra_router.specs.Stepping.{Did, StandsFor, call, told_by};
+ghost use Rattle.ra_router.specs.Stepping.{Did, StandsFor, alone, call, told_by};
 
 use crate::acts::Acts;
 use crate::ask::{Ask, Said, Step, Told};
@@ -34,7 +34,9 @@ pub struct Router {
 }
 
 /// One answer, to the call itself.
-fn answer(from: Token, id: i32, said: Said) -> Acts {
+fn answer(from: Token, id: i32, said: Said) -> Acts
+    ensures { result ≡ alone from id said }
+{
     Acts::One {
         told: Told {
             key: from,
@@ -156,7 +158,7 @@ fn call_next(
 /// Takes out the hop with this number, if it was handed to this window and has no reply.
 fn take_out(out: &mut BTreeMap<u32, Out>, window: &Token, number: u32) -> Option<Out>
     ensures taken { result ≡ settled_by window.now (get nat_cmp out.old number) }
-    ensures out { (n : ℕ) → get nat_cmp out.new n ≡ (if number == n && is_some result then None else get nat_cmp out.old n) }
+    ensures out { (n : ℕ) → get nat_cmp out.new n ≡ (if number == n && is_some (settled_by window.now (get nat_cmp out.old n)) then None else get nat_cmp out.old n) }
 {
     if out.get(&number)?.window != *window {
         return None;
@@ -176,20 +178,22 @@ fn call_reply(
     ensures { (made : ℕ) (windows : Windows) (past : List Step) → Stands made windows out.old past
         → Did result made windows out.new past (call from id (asks.Reply number good value)) }
 {
-    let Some(hop) = take_out(out, &from, number) else {
-        return answer(from, id, Said::NoSuchCall);
-    };
-    Acts::Two {
-        first: Told {
-            key: hop.caller,
-            id: hop.id,
-            said: Said::Replied { good, value },
+    match take_out(out, &from, number) {
+        Some(Out {
+            caller, id: call, ..
+        }) => Acts::Two {
+            first: Told {
+                key: caller,
+                id: call,
+                said: Said::Replied { good, value },
+            },
+            second: Told {
+                key: from,
+                id,
+                said: Said::Done,
+            },
         },
-        second: Told {
-            key: from,
-            id,
-            said: Said::Done,
-        },
+        None => answer(from, id, Said::NoSuchCall),
     }
 }
 
