@@ -15,7 +15,7 @@ use Rattle.ra_router.specs.declared.window.Held.{Held}
 use Rattle.ra_router.specs.declared.window.Out.{Out}
 use Rattle.ra_router.specs.Hops.{Placed, Given, hops, hops_for, nexts_of, is_for, window_of, arg_of, give, given, hand_on}
 use Rattle.ra_router.specs.Queues.{waiting, held}
-use Rattle.ra_router.specs.Standing.{Windows, Outs, Stands, IsHeld, AreHeld, calls_at, hops_at, unsettled, out_of}
+use Rattle.ra_router.specs.Standing.{Windows, Outs, Stands, IsHeld, AreHeld, calls_at, hops_at, next_out, unsettled, out_of}
 use Rattle.ra_router.specs.Stepping.{Did, call}
 use Rattle.ra_router.proofs.Bytes.{bytes_same}
 use Rattle.ra_router.proofs.Handed.{take_number}
@@ -198,3 +198,22 @@ takes made windows after out outs past from id first kept s front kept_is hops_a
         ∙ ap (λ (k : ℕ). option_map out_of (unsettled whole k)) (eqb-true first.number n e)
     out_on n false e =
         ap (λ (b : Bool). cond b (Some kept) (get nat_cmp out n)) e ∙ s.out_are n ∙ ap (option_map out_of) (sym (same_unsettled past x n (λ w. refl) (news n e)))
+
+-- what is kept of the hop, and its number, are those that were looked up
+pub takes_next : (made : ℕ) (windows after : Windows) (out outs : Outs) (past : List Step) (from : List ℕ) (id : ℤ) (number : ℕ) (kept : Out) (hop : Held)
+    → Stands made windows out past → Some (number, kept) ≡ option_map (next_out from) (slice_get (hops_at windows from) 0) → slice_get (hops_at windows from) 0 ≡ Some hop
+    → ((w : List ℕ) → hops_at after w ≡ cond (bytes_eq from w) (drop 1 (hops_at windows w)) (hops_at windows w))
+    → ((w : List ℕ) → calls_at after w ≡ calls_at windows w)
+    → ((n : ℕ) → get nat_cmp outs n ≡ cond (number == n) (Some kept) (get nat_cmp out n))
+    → Did (One (record { key = from; id = id; said = Hop number hop.arg })) made after outs past (call from id Next)
+takes_next made windows after out outs past from id number kept hop s looked front hops_after calls_after outs_after =
+    let pair : (number, kept) ≡ next_out from hop = same_some (number, kept) (next_out from hop) (looked ∙ ap (option_map (next_out from)) front) in
+    let number_is : number ≡ hop.number = ap (λ (p : ℕ × Out). p.0) pair in
+    let kept_is : kept ≡ (next_out from hop).1 = ap (λ (p : ℕ × Out). p.1) pair in
+    subst (λ (k : ℕ). Did (One (record { key = from; id = id; said = Hop k hop.arg })) made after outs past (call from id Next)) (sym number_is)
+    (takes made windows after out outs past from id hop kept s front kept_is hops_after calls_after
+    (λ n. outs_after n ∙ ap (λ (k : ℕ). cond (k == n) (Some kept) (get nat_cmp out n)) number_is))
+
+pub not_looked : (o : Option Held) (from : List ℕ) → None ≡ option_map (next_out from) o → o ≡ None
+not_looked None from e = refl
+not_looked (Some hop) from e = absurd cc

@@ -40,12 +40,11 @@ quiet made windows out after past x s same asks outs = record {
 
 -- ---- answers that hand nothing over
 
-pub is_hop : Said → Bool
+abbrev pub is_hop : Said → Bool
 is_hop (Hop n arg) = true
 is_hop _ = false
 
 pub other_answer : (g : Given) (n : ℕ) (next : Placed) (arg : Value) → is_hop g.told.said ≡ false → ◌≡◌ {A = Option Given} (Some g) (Some (give next (Hop n arg))) → ⊥
-unfolding is_hop
 other_answer g n next arg is e = true≢false (sym (ap (λ (k : Given). is_hop k.told.said) (same_some g (give next (Hop n arg)) e)) ∙ is)
 
 pub one_answer : (g : Given) (l : List Given) (n : ℕ) → l ≡ g ∷ [] → is_hop g.told.said ≡ false
@@ -68,19 +67,16 @@ refused made windows out past x said s is no_hop same asks other = record {
 
 pub bad_to : (made : ℕ) (windows : Windows) (out : Outs) (past : List Step) (from : List ℕ) (id : ℤ) → Stands made windows out past
     → Did (One (record { key = from; id = id; said = BadWindow })) made windows out past (call from id BadTo)
-unfolding is_hop
 bad_to made windows out past from id s =
     refused made windows out past (call from id BadTo) BadWindow s refl refl (hops_same past (call from id BadTo) refl) refl (λ n w. refl)
 
 pub bad_reply : (made : ℕ) (windows : Windows) (out : Outs) (past : List Step) (from : List ℕ) (id : ℤ) → Stands made windows out past
     → Did (One (record { key = from; id = id; said = NoSuchCall })) made windows out past (call from id BadReply)
-unfolding is_hop
 bad_reply made windows out past from id s =
     refused made windows out past (call from id BadReply) NoSuchCall s refl refl (hops_same past (call from id BadReply) refl) refl (λ n w. refl)
 
 pub full : (made : ℕ) (windows : Windows) (out : Outs) (past : List Step) (from window : List ℕ) (id : ℤ) (arg : Value) → hop_limit ≤ made → Stands made windows out past
     → Did (One (record { key = from; id = id; said = Full })) made windows out past (call from id (To window arg))
-unfolding is_hop
 full made windows out past from window id arg limit s =
     let x : Step = call from id (To window arg) in
     let none : hop_limit ≤ length (hops past) = subst (λ (n : ℕ). hop_limit ≤ n) s.made_is limit in

@@ -18,7 +18,7 @@ use Rattle.ra_router.specs.Standing.{Windows, Outs, Stands, settled_by, unsettle
 use Rattle.ra_router.specs.Stepping.{Did, call}
 use Rattle.ra_router.proofs.Bytes.{bytes_same, same_bytes}
 use Rattle.ra_router.proofs.Placed.{same_some}
-use Rattle.ra_router.proofs.Quiet.{quiet, one_answer, other_answer, is_hop}
+use Rattle.ra_router.proofs.Quiet.{quiet, one_answer, other_answer}
 use Rattle.ra_router.proofs.Snoc.{at_end, hops_same}
 use Rattle.ra_router.proofs.Unsettled.{IsNoNews, after_step, no_delivery, never_unsettled}
 
@@ -113,7 +113,6 @@ left past from id m n good value news (Some d) e =
 
 settle_news : (o : Option Placed) (good : Bool) (value : Value) (c : Placed) (n : ℕ) (next : Placed) (arg : Value) (j : ℕ)
     → slice_get (settle o good value c) j ≡ Some (give next (Hop n arg)) → ⊥
-unfolding is_hop
 settle_news None good value c n next arg j e = one_answer (give c NoSuchCall) (give c NoSuchCall ∷ []) n refl refl next arg j e
 settle_news (Some hop) good value c n next arg zero e = other_answer (give hop (Replied good value)) n next arg refl e
 settle_news (Some hop) good value c n next arg (suc j) e = one_answer (give c Done) (give c Done ∷ []) n refl refl next arg j e

@@ -9,8 +9,10 @@ pub mod acts;
 pub mod ask;
 pub mod laws;
 pub mod router;
+pub mod runs;
 mod window;
 
 pub use acts::Acts;
 pub use ask::{Ask, Said, Step, Told};
 pub use router::Router;
+pub use runs::run;

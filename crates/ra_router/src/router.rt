@@ -137,21 +137,25 @@ fn call_next(
         → IfOk result (λ acts. Did acts made windows.new out.new past (call from id asks.Next)) }
     ensures err { (made : ℕ) (past : List Step) → Stands made windows.old out.old past → OnErr result (Stands made windows.new out.new past) }
 {
-    let Some((number, kept)) = first_hop(windows, &from) else {
-        hold_call(windows, alloc, &from, id)?;
-        return Ok(Acts::Nothing);
-    };
-    out.insert(number, kept)?;
-    match take_hop(windows, &from) {
-        Some(hop) => Ok(answer(
-            from,
-            id,
-            Said::Hop {
-                number,
-                arg: hop.arg,
-            },
-        )),
-        None => Ok(Acts::Nothing),
+    match first_hop(windows, &from) {
+        Some((number, kept)) => {
+            out.insert(number, kept)?;
+            match take_hop(windows, &from) {
+                Some(hop) => Ok(answer(
+                    from,
+                    id,
+                    Said::Hop {
+                        number,
+                        arg: hop.arg,
+                    },
+                )),
+                None => Ok(Acts::Nothing),
+            }
+        }
+        None => {
+            hold_call(windows, alloc, &from, id)?;
+            Ok(Acts::Nothing)
+        }
     }
 }
 
@@ -197,6 +201,29 @@ fn call_reply(
     }
 }
 
+/// A call of a window, on what the router keeps.
+fn act(
+    alloc: Global,
+    made: &mut u32,
+    windows: &mut BTreeMap<Token, Window>,
+    out: &mut BTreeMap<u32, Out>,
+    from: Token,
+    id: i32,
+    ask: Ask,
+) -> Result<Acts, NoMemory>
+    ensures ok { (past : List Step) → Stands made.old windows.old out.old past
+        → IfOk result (λ acts. Did acts made.new windows.new out.new past (call from id ask)) }
+    ensures err { (past : List Step) → Stands made.old windows.old out.old past → OnErr result (Stands made.new windows.new out.new past) }
+{
+    match ask {
+        Ask::BadTo => Ok(answer(from, id, Said::BadWindow)),
+        Ask::To { window, arg } => call_to(alloc, made, windows, out, from, id, window, arg),
+        Ask::Next => call_next(alloc, windows, out, from, id),
+        Ask::Reply { hop, good, value } => Ok(call_reply(out, from, id, hop, good, value)),
+        Ask::BadReply => Ok(answer(from, id, Said::NoSuchCall)),
+    }
+}
+
 impl Router {
     /// A router that no call came to.
     pub fn new(alloc: Global) -> Router
@@ -216,24 +243,14 @@ impl Router {
         ensures after { (past : List Step) → StandsFor self.old past → OnOk result (StandsFor self.new (past ++ step ∷ [])) }
         ensures same { (past : List Step) → StandsFor self.old past → OnErr result (StandsFor self.new past) }
     {
-        let Step { from, id, ask } = step;
-        match ask {
-            Ask::BadTo => Ok(answer(from, id, Said::BadWindow)),
-            Ask::To { window, arg } => call_to(
-                self.alloc,
-                &mut self.made,
-                &mut self.windows,
-                &mut self.out,
-                from,
-                id,
-                window,
-                arg,
-            ),
-            Ask::Next => call_next(self.alloc, &mut self.windows, &mut self.out, from, id),
-            Ask::Reply { hop, good, value } => {
-                Ok(call_reply(&mut self.out, from, id, hop, good, value))
-            }
-            Ask::BadReply => Ok(answer(from, id, Said::NoSuchCall)),
-        }
+        act(
+            self.alloc,
+            &mut self.made,
+            &mut self.windows,
+            &mut self.out,
+            step.from,
+            step.id,
+            step.ask,
+        )
     }
 }
