@@ -15,3 +15,4 @@ pub mod Quiet
 pub mod Called
 pub mod Asked
 pub mod Settling
+pub mod Replays
