@@ -1,5 +1,5 @@
 -- What is told at a list of steps, and at one step more.
-use Rattle.std.proofs.Common.{◌≡◌, List, [], ◌∷◌, ◌++◌, map, refl, sym, ap, ◌∙◌}
+use Rattle.std.proofs.Common.{◌≡◌, ℕ, ◌+◌, List, [], ◌∷◌, ◌++◌, length, map, refl, sym, ap, ◌∙◌, arith}
 use Rattle.std.proofs.lemmas.List.{append-nil}
 use Rattle.ra_router.specs.declared.acts.Acts.{Acts}
 use Rattle.ra_router.specs.declared.ask.Step.{Step}
@@ -26,3 +26,12 @@ pub one_step : (done : List Step) (x : Step) (before after : List Acts) (acts : 
 one_step done x before after acts so_far grown tells =
     ap (map told_by) grown ∙ map_snoc before acts ∙ ap (λ (k : List (List Told)). k ++ told_by acts ∷ []) so_far
     ∙ ap (λ (k : List Told). replay [] done ++ k ∷ []) tells ∙ sym (replay_snoc [] done x)
+
+-- ---- lists that are gone through
+
+pub one_less : {A : Type 0} (len next : ℕ) (xs : List A) (x : A) (ys : List A) → xs ≡ x ∷ ys → next + 1 ≡ len → len ≡ length xs → next ≡ length ys
+one_less len next xs x ys e more all = let n = ap length e in omega arith
+
+pub ended : {A : Type 0} (done rest all : List A) → done ++ rest ≡ all → length rest ≡ 0 → done ≡ all
+ended done [] all e none = sym (append-nil done) ∙ e
+ended done (x ∷ xs) all e none = absurd (omega arith)
