@@ -1,5 +1,5 @@
 -- A window asks for a hop: it takes the first that waits, or waits.
-use Rattle.std.proofs.Common.{◌≡◌, ℕ, ◌+◌, ◌≤◌, ◌<◌, Bool, true, false, true≢false, cond, zero, suc, List, [], ◌∷◌, ◌++◌, length, take, drop, refl, sym, ap, subst, ◌∙◌}
+use Rattle.std.proofs.Common.{◌≡◌, ℕ, ◌≤◌, ◌<◌, Bool, true, false, true≢false, cond, zero, suc, List, [], ◌∷◌, ◌++◌, length, take, drop, refl, sym, ap, subst, ◌∙◌}
 use Rattle.std.specs.Prelude.{ℤ, filter, map, slice_get, Option, Some, None, option_map, ◌==◌, bytes_eq}
 use Rattle.std.proofs.lemmas.Bool.{eqb-true, eq-eqb}
 use Rattle.std.specs.BTreeMap.{get}
@@ -9,13 +9,12 @@ use Rattle.ra_router.specs.declared.ask.Ask.TheVariants.{Next}
 use Rattle.ra_router.specs.declared.ask.Step.{Step}
 use Rattle.ra_router.specs.declared.ask.Said.{Said}
 use Rattle.ra_router.specs.declared.ask.Said.TheVariants.{Hop}
-use Rattle.ra_router.specs.declared.ask.Told.{Told}
 use Rattle.ra_router.specs.declared.acts.Acts.TheVariants.{Nothing, One}
 use Rattle.ra_router.specs.declared.window.Held.{Held}
 use Rattle.ra_router.specs.declared.window.Out.{Out}
 use Rattle.ra_router.specs.Hops.{Placed, Given, hops, hops_for, nexts_of, is_for, window_of, arg_of, give, given, hand_on}
 use Rattle.ra_router.specs.Queues.{waiting, held}
-use Rattle.ra_router.specs.Standing.{Windows, Outs, Stands, IsHeld, AreHeld, calls_at, hops_at, next_out, unsettled, out_of}
+use Rattle.ra_router.specs.Standing.{Windows, Outs, Stands, AreHeld, calls_at, hops_at, next_out, unsettled, out_of}
 use Rattle.ra_router.specs.Stepping.{Did, call}
 use Rattle.ra_router.proofs.Bytes.{bytes_same}
 use Rattle.ra_router.proofs.Handed.{take_number}
@@ -36,12 +35,12 @@ waits made windows after out past from id s first calls_after hops_after = recor
   after = record {
     made_is = s.made_is ∙ ap (λ (l : List Placed). length l) (sym same);
     calls_are = λ w.
-      calls_after w ∙ ap (λ (l : List ℤ). cond (bytes_eq from w) (l ++ id ∷ []) l) (s.calls_are w)
-      ∙ sym (map_more (λ (c : Placed). c.step.id) (bytes_eq from w) (waiting w past) here)
-      ∙ ap (map (λ (c : Placed). c.step.id)) (sym (waiting_more w));
+        calls_after w ∙ ap (λ (l : List ℤ). cond (bytes_eq from w) (l ++ id ∷ []) l) (s.calls_are w)
+        ∙ sym (map_more (λ (c : Placed). c.step.id) (bytes_eq from w) (waiting w past) here)
+        ∙ ap (map (λ (c : Placed). c.step.id)) (sym (waiting_more w));
     hops_are = λ w.
-      subst (λ (l : List Held). AreHeld whole l (held w whole)) (sym (hops_after w))
-      (subst (λ (l : List Placed). AreHeld whole (hops_at windows w) l) (sym (held_same w)) (held_stays past (x ∷ []) (hops_at windows w) (held w past) (s.hops_are w)));
+        subst (λ (l : List Held). AreHeld whole l (held w whole)) (sym (hops_after w))
+        (subst (λ (l : List Placed). AreHeld whole (hops_at windows w) l) (sym (held_same w)) (held_stays past (x ∷ []) (hops_at windows w) (held w past) (s.hops_are w)));
     out_are = λ n. s.out_are n ∙ ap (option_map out_of) (sym (same_unsettled past x n (λ w. refl) (news n)));
   };
 }
@@ -105,9 +104,9 @@ takes made windows after out outs past from id first kept s front kept_is hops_a
     made_is = s.made_is ∙ ap (λ (l : List Placed). length l) (sym same);
     calls_are = λ w. calls_after w ∙ s.calls_are w ∙ ap (map (λ (c : Placed). c.step.id)) (sym (waiting_same w));
     hops_are = λ w.
-      subst (λ (l : List Held). AreHeld whole l (held w whole)) (sym (hops_after w))
-      (subst (λ (l : List Placed). AreHeld whole (cond (bytes_eq from w) (drop 1 (hops_at windows w)) (hops_at windows w)) l) (sym (held_fewer w))
-      (held_less (bytes_eq from w) whole (hops_at windows w) (held w past) (held_stays past (x ∷ []) (hops_at windows w) (held w past) (s.hops_are w))));
+        subst (λ (l : List Held). AreHeld whole l (held w whole)) (sym (hops_after w))
+        (subst (λ (l : List Placed). AreHeld whole (cond (bytes_eq from w) (drop 1 (hops_at windows w)) (hops_at windows w)) l) (sym (held_fewer w))
+        (held_less (bytes_eq from w) whole (hops_at windows w) (held w past) (held_stays past (x ∷ []) (hops_at windows w) (held w past) (s.hops_are w))));
     out_are = λ n. outs_after n ∙ out_on n (first.number == n) refl;
   };
 }

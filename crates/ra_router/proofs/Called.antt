@@ -1,6 +1,6 @@
 -- A call to a window: its hop is handed over, or waits.
-use Rattle.std.proofs.Common.{◌≡◌, ◌≢◌, ℕ, ◌+◌, ◌≤◌, ◌<◌, ◌&&◌, Bool, true, false, true≢false, cond, zero, suc, List, [], ◌∷◌, ◌++◌, length, drop, refl, sym, ap, subst, ◌∙◌, arith}
-use Rattle.std.specs.Prelude.{ℤ, map, slice_get, Option, Some, None, option_map, nat_lt, ◌==◌, bytes_eq}
+use Rattle.std.proofs.Common.{◌≡◌, ℕ, ◌+◌, ◌≤◌, ◌<◌, ◌&&◌, Bool, true, false, true≢false, cond, zero, suc, List, [], ◌∷◌, ◌++◌, length, drop, refl, sym, ap, subst, ◌∙◌, arith}
+use Rattle.std.specs.Prelude.{ℤ, map, slice_get, Option, Some, None, option_map, ◌==◌, bytes_eq}
 use Rattle.std.proofs.lemmas.Bool.{lt-ltb, eqb-true, eq-eqb}
 use Rattle.std.specs.BTreeMap.{get}
 use Rattle.std.specs.Ordering.{nat_cmp}
@@ -55,9 +55,9 @@ holds made windows after out past caller window id arg kept low s first is hops_
     made_is = one_more made past x grown s.made_is;
     calls_are = λ w. calls_after w ∙ s.calls_are w ∙ ap (map (λ (c : Placed). c.step.id)) (sym (waiting_same w));
     hops_are = λ w.
-      subst (λ (l : List Held). AreHeld whole l (held w whole)) (sym (hops_after w))
-      (subst (λ (l : List Placed). AreHeld whole (cond (bytes_eq window w) (hops_at windows w ++ kept ∷ []) (hops_at windows w)) l) (sym (held_grown w))
-      (held_more (bytes_eq window w) whole (hops_at windows w) (held w past) kept here (held_stays past (x ∷ []) (hops_at windows w) (held w past) (s.hops_are w)) now_held));
+        subst (λ (l : List Held). AreHeld whole l (held w whole)) (sym (hops_after w))
+        (subst (λ (l : List Placed). AreHeld whole (cond (bytes_eq window w) (hops_at windows w ++ kept ∷ []) (hops_at windows w)) l) (sym (held_grown w))
+        (held_more (bytes_eq window w) whole (hops_at windows w) (held w past) kept here (held_stays past (x ∷ []) (hops_at windows w) (held w past) (s.hops_are w)) now_held));
     out_are = λ n. s.out_are n ∙ ap (option_map out_of) (sym (same_unsettled past x n (λ w. refl) (news n)));
   };
 }
@@ -128,12 +128,12 @@ hands_over made windows after out outs past caller window id waits arg kept low 
   after = record {
     made_is = one_more made past x grown s.made_is;
     calls_are = λ w.
-      calls_after w ∙ ap (λ (l : List ℤ). cond (bytes_eq window w) (drop 1 l) l) (s.calls_are w)
-      ∙ sym (map_less (λ (c : Placed). c.step.id) (bytes_eq window w) (waiting w past))
-      ∙ ap (map (λ (c : Placed). c.step.id)) (sym (waiting_less w));
+        calls_after w ∙ ap (λ (l : List ℤ). cond (bytes_eq window w) (drop 1 l) l) (s.calls_are w)
+        ∙ sym (map_less (λ (c : Placed). c.step.id) (bytes_eq window w) (waiting w past))
+        ∙ ap (map (λ (c : Placed). c.step.id)) (sym (waiting_less w));
     hops_are = λ w.
-      subst (λ (l : List Held). AreHeld whole l (held w whole)) (sym (hops_after w))
-      (subst (λ (l : List Placed). AreHeld whole (hops_at windows w) l) (sym (held_same w)) (held_stays past (x ∷ []) (hops_at windows w) (held w past) (s.hops_are w)));
+        subst (λ (l : List Held). AreHeld whole l (held w whole)) (sym (hops_after w))
+        (subst (λ (l : List Placed). AreHeld whole (hops_at windows w) l) (sym (held_same w)) (held_stays past (x ∷ []) (hops_at windows w) (held w past) (s.hops_are w)));
     out_are = λ n. outs_after n ∙ out_on n (made == n) refl;
   };
 }

@@ -1,6 +1,6 @@
 -- The queues in memory against the hops and calls that they stand for.
-use Rattle.std.proofs.Common.{◌≡◌, ℕ, Bool, true, false, cond, List, [], ◌∷◌, ◌++◌, length, drop, refl, sym, ap, subst, ◌∙◌}
-use Rattle.std.specs.Prelude.{map, slice_get, Option, Some, None}
+use Rattle.std.proofs.Common.{◌≡◌, Bool, true, false, cond, List, [], ◌∷◌, ◌++◌, length, drop, refl, ap, subst}
+use Rattle.std.specs.Prelude.{map, slice_get, Some, None}
 use Rattle.ra_router.specs.declared.ask.Step.{Step}
 use Rattle.ra_router.specs.declared.window.Held.{Held}
 use Rattle.ra_router.specs.Hops.{Placed}

@@ -1,6 +1,6 @@
 -- Steps that change no queue.
-use Rattle.std.proofs.Common.{◌≡◌, ℕ, ◌≤◌, ◌<◌, Bool, true, false, true≢false, cond, zero, suc, List, [], ◌∷◌, ◌++◌, length, drop, refl, sym, ap, subst, ◌∙◌}
-use Rattle.std.specs.Prelude.{ℤ, filter, map, slice_get, Option, Some, None, option_map, nat_lt}
+use Rattle.std.proofs.Common.{◌≡◌, ℕ, ◌≤◌, Bool, true, false, true≢false, cond, zero, suc, List, [], ◌∷◌, ◌++◌, length, drop, refl, sym, ap, subst, ◌∙◌}
+use Rattle.std.specs.Prelude.{ℤ, filter, map, slice_get, Option, Some, None, option_map}
 use Rattle.std.proofs.lemmas.Bool.{le-ltb}
 use Rattle.std.specs.BTreeMap.{get}
 use Rattle.std.specs.Ordering.{nat_cmp}
@@ -17,7 +17,7 @@ use Rattle.ra_router.specs.Stepping.{Did, call}
 use Rattle.ra_router.proofs.Kept.{held_stays}
 use Rattle.ra_router.proofs.Placed.{same_some}
 use Rattle.ra_router.proofs.Snoc.{at_end, hops_same, hops_full, nexts_same}
-use Rattle.ra_router.proofs.Unsettled.{IsNoNews, same_unsettled}
+use Rattle.ra_router.proofs.Unsettled.{same_unsettled}
 
 pub quiet : (made : ℕ) (windows : Windows) (out after : Outs) (past : List Step) (x : Step) → Stands made windows out past
     → hops (past ++ x ∷ []) ≡ hops past → is_next x.ask ≡ false → ((n : ℕ) → get nat_cmp after n ≡ option_map out_of (unsettled (past ++ x ∷ []) n))

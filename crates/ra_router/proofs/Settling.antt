@@ -1,5 +1,5 @@
 -- A window replies to a hop: the hop is settled, or there is no such call.
-use Rattle.std.proofs.Common.{◌≡◌, ◌⊎◌, ℕ, ◌+◌, ◌≤◌, ◌<◌, ◌&&◌, Bool, true, false, true≢false, not, cond, zero, suc, List, [], ◌∷◌, ◌++◌, length, take, drop, refl, sym, ap, subst, ◌∙◌, inl, inr}
+use Rattle.std.proofs.Common.{◌≡◌, ℕ, ◌&&◌, Bool, true, false, true≢false, not, cond, zero, suc, List, [], ◌∷◌, ◌++◌, drop, refl, sym, ap, ◌∙◌}
 use Rattle.std.specs.Prelude.{ℤ, map, slice_get, Option, Some, None, option_map, ◌==◌, bytes_eq}
 use Rattle.std.specs.List.{list_any}
 use Rattle.std.specs.Option.{is_some}
@@ -8,12 +8,10 @@ use Rattle.std.specs.Ordering.{nat_cmp}
 use Rattle.ra_values.specs.declared.value.Value.{Value}
 use Rattle.ra_router.specs.declared.ask.Ask.TheVariants.{Reply}
 use Rattle.ra_router.specs.declared.ask.Step.{Step}
-use Rattle.ra_router.specs.declared.ask.Said.{Said}
 use Rattle.ra_router.specs.declared.ask.Said.TheVariants.{Hop, Replied, Done, NoSuchCall}
-use Rattle.ra_router.specs.declared.ask.Told.{Told}
 use Rattle.ra_router.specs.declared.acts.Acts.TheVariants.{One, Two}
 use Rattle.ra_router.specs.declared.window.Out.{Out}
-use Rattle.ra_router.specs.Hops.{Placed, Delivery, Given, is_for, window_of, give, given, delivery, delivered_at, replies, open_of, open_hop, settle}
+use Rattle.ra_router.specs.Hops.{Placed, Delivery, Given, is_for, window_of, give, delivery, delivered_at, replies, open_of, open_hop, settle}
 use Rattle.ra_router.specs.Standing.{Windows, Outs, Stands, settled_by, unsettled, unsettled_of, out_of}
 use Rattle.ra_router.specs.Stepping.{Did, call}
 use Rattle.ra_router.proofs.Bytes.{bytes_same, same_bytes}

@@ -1,10 +1,9 @@
 -- How a step changes which hops have no reply.
-use Rattle.std.proofs.Common.{◌≡◌, ◌⊎◌, ℕ, ◌<◌, ◌≤◌, ◌||◌, Bool, true, false, cond, zero, suc, List, [], ◌∷◌, ◌++◌, length, take, drop, refl, sym, ap, subst, ◌∙◌, inl, inr, arith}
+use Rattle.std.proofs.Common.{◌≡◌, ◌⊎◌, ℕ, ◌<◌, ◌≤◌, ◌||◌, Bool, true, false, cond, zero, suc, List, [], ◌∷◌, ◌++◌, length, take, drop, refl, sym, ap, ◌∙◌, inl, inr, arith}
 use Rattle.std.specs.Prelude.{slice_get, Option, Some, None}
 use Rattle.std.specs.List.{list_any}
 use Rattle.std.proofs.Math.Seq.{take-append_seam}
 use Rattle.ra_values.specs.declared.value.Value.{Value}
-use Rattle.ra_router.specs.declared.ask.Ask.TheVariants.{Next}
 use Rattle.ra_router.specs.declared.ask.Step.{Step}
 use Rattle.ra_router.specs.declared.ask.Said.{Said}
 use Rattle.ra_router.specs.declared.ask.Said.TheVariants.{Hop}
@@ -89,13 +88,13 @@ no_delivery past x n none news (Some d) o =
     let size = length_snoc past x in
     absurd (elim (cases (delivered_at d) (length past) (omega arith)) [
       | inl early ↦
-        let l = later_left d.hop.place d.next.place in
-        let r = later_right d.hop.place d.next.place in
-        some_none d (delivery past n) none (delivery_back past (x ∷ []) n d o (omega arith) (omega arith))
+          let l = later_left d.hop.place d.next.place in
+          let r = later_right d.hop.place d.next.place in
+          some_none d (delivery past n) none (delivery_back past (x ∷ []) n d o (omega arith) (omega arith))
       | inr at ↦
-        let g = hops_delivered (past ++ x ∷ []) n d o in
-        news d.next (arg_of d.hop.step.ask) g.index
-        (here past g.past x g.step g.rest (give d.next (Hop n (arg_of d.hop.step.ask))) g.index g.whole (g.at ∙ at) g.among)
+          let g = hops_delivered (past ++ x ∷ []) n d o in
+          news d.next (arg_of d.hop.step.ask) g.index
+          (here past g.past x g.step g.rest (give d.next (Hop n (arg_of d.hop.step.ask))) g.index g.whole (g.at ∙ at) g.among)
     ])
 
 pub never_unsettled : (past : List Step) (n : ℕ) → delivery past n ≡ None → unsettled past n ≡ None

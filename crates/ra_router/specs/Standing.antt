@@ -1,11 +1,10 @@
 -- What a router keeps in memory, and the steps that it stands for.
-use Rattle.std.specs.Prelude.{◌≡◌, ℕ, ℤ, suc, List, [], ◌∷◌, ◌++◌, length, drop, map, slice_get, Option, Some, None, option_map, bytes_eq, if◌then◌else◌}
+use Rattle.std.specs.Prelude.{◌≡◌, ℕ, ℤ, suc, List, [], ◌∷◌, length, drop, map, slice_get, Option, Some, None, option_map, bytes_eq, if◌then◌else◌}
 use Rattle.std.specs.List.{list_any}
 use Rattle.std.specs.BTreeMap.{BTreeMap, get}
 use Rattle.std.specs.Ordering.{nat_cmp}
 use Rattle.std.specs.Cmp.Lexicographic.{slice_cmp}
 use Rattle.ra_router.specs.declared.ask.Step.{Step}
-use Rattle.ra_router.specs.declared.ask.Told.{Told}
 use Rattle.ra_router.specs.declared.window.Held.{Held}
 use Rattle.ra_router.specs.declared.window.Out.{Out}
 use Rattle.ra_router.specs.declared.window.Window.{Window}

@@ -18,8 +18,11 @@ told_by Nothing = []
 told_by (One t) = t ∷ []
 told_by (Two first second) = first ∷ second ∷ []
 
+abbrev pub tells : List ℕ → ℤ → Said → Told
+tells key id said = record { key = key; id = id; said = said }
+
 abbrev pub alone : List ℕ → ℤ → Said → Acts
-alone key id said = One (record { key = key; id = id; said = said })
+alone key id said = One (tells key id said)
 
 -- the router stands for these steps
 abbrev pub StandsFor : Router → List Step → Type 0

@@ -7,7 +7,7 @@ ghost use Rattle.ra_router.specs.declared.ask.Step.{Step};
 ghost use Rattle.ra_router.specs.declared.ask.Ask.TheVariants as asks;
 ghost use Rattle.ra_router.specs.Hops.{told};
 ghost use Rattle.ra_router.specs.Standing.{Windows, Outs, Stands, calls_at, settled_by};
-ghost use Rattle.ra_router.specs.Stepping.{Did, StandsFor, alone, call, told_by};
+ghost use Rattle.ra_router.specs.Stepping.{Did, StandsFor, alone, call, tells, told_by};
 
 use crate::acts::Acts;
 use crate::ask::{Ask, Said, Step, Told};
@@ -33,16 +33,19 @@ pub struct Router {
     out: BTreeMap<u32, Out>,
 }
 
-/// One answer, to the call itself.
-fn answer(from: Token, id: i32, said: Said) -> Acts
-    ensures { result ≡ alone from id said }
+/// An answer to a call.
+fn tell(key: Token, id: i32, said: Said) -> Told
+    ensures { result ≡ tells key id said }
+{
+    Told { key, id, said }
+}
+
+/// Just this answer to a call.
+fn answer(key: Token, id: i32, said: Said) -> Acts
+    ensures { result ≡ alone key id said }
 {
     Acts::One {
-        told: Told {
-            key: from,
-            id,
-            said,
-        },
+        told: Told { key, id, said },
     }
 }
 
@@ -183,19 +186,15 @@ fn call_reply(
         → Did result made windows out.new past (call from id (asks.Reply number good value)) }
 {
     match take_out(out, &from, number) {
-        Some(Out {
-            caller, id: call, ..
-        }) => Acts::Two {
-            first: Told {
-                key: caller,
+        Some(
+            Out {
+                caller,
                 id: call,
-                said: Said::Replied { good, value },
+                ..
             },
-            second: Told {
-                key: from,
-                id,
-                said: Said::Done,
-            },
+        ) => Acts::Two {
+            first: tell(caller, call, Said::Replied { good, value }),
+            second: tell(from, id, Said::Done),
         },
         None => answer(from, id, Said::NoSuchCall),
     }

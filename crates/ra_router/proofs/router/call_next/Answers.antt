@@ -1,5 +1,5 @@
-use Rattle.std.proofs.Common.{List, ℕ, w32, to_z, of_z, sym, ap, subst, cond, ◌++◌, ◌∷◌, [], ◌∙◌}
-use Rattle.std.specs.Prelude.{Some, None, bytes_eq, slice_get}
+use Rattle.std.proofs.Common.{w32, sym, ap, subst, cond, ◌++◌, ◌∷◌, [], ◌∙◌}
+use Rattle.std.specs.Prelude.{Some, bytes_eq, slice_get}
 use Rattle.std.proofs.lemmas.Int.{to_z-of_z}
 use Rattle.ra_router.specs.declared.acts.Acts.{Acts}
 use Rattle.ra_router.specs.declared.ask.Ask.TheVariants.{Next}

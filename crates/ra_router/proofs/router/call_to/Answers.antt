@@ -1,5 +1,5 @@
-use Rattle.std.proofs.Common.{w32, to_z, of_z, sym, ap, subst, ◌∙◌}
-use Rattle.std.specs.Prelude.{Some, None, IfOk}
+use Rattle.std.proofs.Common.{w32, sym, ap, subst, ◌∙◌}
+use Rattle.std.specs.Prelude.{IfOk}
 use Rattle.std.proofs.lemmas.Int.{to_z-of_z}
 use Rattle.ra_router.specs.declared.acts.Acts.{Acts}
 use Rattle.ra_router.specs.declared.ask.Ask.TheVariants.{To}

@@ -1,4 +1,4 @@
-use Rattle.std.proofs.Common.{rules, refl}
+use Rattle.std.proofs.Common.{rules}
 use Rattle.std.specs.Prelude.{Some, None}
 use Rattle.ra_router.specs.declared.window.Window.{Window}
 use Rattle.ra_router.specs.Standing.{calls_of, hops_of}

@@ -1,5 +1,5 @@
-use Rattle.std.proofs.Common.{rules, refl, ap, ◌∙◌, cond, List, []}
-use Rattle.std.specs.Prelude.{Some, None, ◌++◌, ◌∷◌, drop, bytes_eq}
+use Rattle.std.proofs.Common.{rules, refl, ap, ◌∙◌, cond, []}
+use Rattle.std.specs.Prelude.{Some, ◌++◌, ◌∷◌, bytes_eq}
 use Rattle.ra_router.specs.declared.window.Window.{Window}
 use Rattle.ra_router.specs.Standing.{calls_of, hops_of}
 use Rattle.ra_router.proofs.Windows.{changed, kept, on_err}

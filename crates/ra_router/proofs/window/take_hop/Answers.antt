@@ -1,5 +1,5 @@
-use Rattle.std.proofs.Common.{rules, refl, List, []}
-use Rattle.std.specs.Prelude.{Some, None, ◌++◌, ◌∷◌, drop}
+use Rattle.std.proofs.Common.{rules, refl}
+use Rattle.std.specs.Prelude.{Some, drop}
 use Rattle.ra_router.specs.declared.window.Window.{Window}
 use Rattle.ra_router.specs.Standing.{calls_of, hops_of}
 use Rattle.ra_router.proofs.Windows.{changed, kept}

@@ -1,8 +1,7 @@
-use Rattle.std.proofs.Common.{rules, ◌≡◌, w32, to_z, of_z, sym, ap, subst, ◌∙◌, Result, Ok, Err, IfOk}
+use Rattle.std.proofs.Common.{rules, ◌≡◌, w32, to_z, of_z, ap, ◌∙◌, Result, Ok, Err, IfOk}
 use Rattle.std.specs.Prelude.{ℤ}
 use Rattle.std.proofs.lemmas.Int.{to_z-of_z}
 use Rattle.ra_router.specs.declared.acts.Acts.{Acts}
-use Rattle.ra_router.specs.declared.ask.Step.{Step}
 use Rattle.ra_router.specs.Hops.{told}
 use Rattle.ra_router.specs.Stepping.{Did, told_by, call}
 use Rattle.ra_router.proofs.router.Router.step.Goals as goal
