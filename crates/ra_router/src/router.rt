@@ -23,6 +23,10 @@ use std::collections::BTreeMap;
 pub const HOP_LIMIT: u32 = 2_147_483_647;
 
 /// Which calls between windows wait, and which were handed over and have no reply.
+///
+/// It keeps an id for each call by which a window waits, number, caller and argument for each hop that waits, and number, window and
+/// caller for each that was handed over, until its reply. For each window that ever waited or was called it keeps two queues, which
+/// may be empty, and nothing else: what is answered is forgotten.
 #[derive(Drop)]
 pub struct Router {
     alloc: Global,
@@ -236,7 +240,8 @@ impl Router {
         }
     }
 
-    /// The router takes a call of a window. Where there is no memory for it, nothing has changed.
+    /// The router takes a call of a window. Where there is no memory for it, the router stands for the same calls as before, and the
+    /// call is lost.
     pub fn step(&mut self, step: Step) -> Result<Acts, NoMemory>
         ensures told { (past : List Step) → StandsFor self.old past → IfOk result (λ acts. told_by acts ≡ told past step) }
         ensures after { (past : List Step) → StandsFor self.old past → OnOk result (StandsFor self.new (past ++ step ∷ [])) }

@@ -1,5 +1,4 @@
-use Rattle.std.proofs.Common.{rules, w32, to_z, of_z, sym, ap, subst, ◌∙◌}
-use Rattle.std.specs.Prelude.{ℤ}
+use Rattle.std.proofs.Common.{rules, w32, sym, ap, subst, ◌∙◌}
 use mir.Val.{SFits}
 use Rattle.std.proofs.lemmas.Int.{to_z-of_z}
 use Rattle.ra_router.specs.declared.acts.Acts.{Acts}
