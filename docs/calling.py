@@ -5,7 +5,7 @@ import os
 import re
 
 # What a caller uses, in the order of the walk "one connection at the server" and then the client's end.
-CRATES = ["ra_ports", "ra_edge", "ra_keep", "ra_keep_sql", "ra_hub", "ra_jobs", "ra_app", "ra_link", "ra_tunnel", "ra_dial", "ra_session", "ra_proto"]
+CRATES = ["ra_ports", "ra_edge", "ra_keep", "ra_keep_sql", "ra_hub", "ra_jobs", "ra_app", "ra_link", "ra_tunnel", "ra_router", "ra_dial", "ra_session", "ra_proto"]
 
 
 def names_of(head):

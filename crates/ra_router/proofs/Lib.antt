@@ -7,3 +7,12 @@ pub mod Nexts
 pub mod Refused
 pub mod Bytes
 pub mod Replied
+pub mod Windows
+pub mod Snoc
+pub mod Unsettled
+pub mod Kept
+pub mod Quiet
+pub mod Called
+pub mod Asked
+pub mod Settling
+pub mod Replays
