@@ -30,14 +30,12 @@ fn kept_two<R: Keeper + Drop>(alloc: Global, keeper: R) -> Result<R, Fail> {
 /// What the audit of two windows answers over this keeper.
 fn audits_two<R: Keeper + Drop>(alloc: Global, keeper: R) -> Result<bool, Fail> {
     let mut keeper = kept_two(alloc, keeper)?;
-    Ok(
-        audits(
-            &mut keeper,
-            alloc,
-            0,
-            "1 management t1 1 0\n2 management t2 1 6\nend records=2\n",
-        ),
-    )
+    Ok(audits(
+        &mut keeper,
+        alloc,
+        0,
+        "1 management t1 1 0\n2 management t2 1 6\nend records=2\n",
+    ))
 }
 
 #[test]

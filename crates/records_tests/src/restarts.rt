@@ -1,5 +1,5 @@
 //! Hubs that start again over what a hub before them kept: in memory, on a disk in memory, and in a file.
-use crate::fixtures::{LONG, SHORT, adopt, admit, files_of, fused, refusal};
+use crate::fixtures::{LONG, SHORT, admit, adopt, files_of, fused, refusal};
 use ra_base::Reason;
 use ra_hub::{Hub, PlainHub};
 use ra_keep::Keeper;

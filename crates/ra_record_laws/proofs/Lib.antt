@@ -1,0 +1,4 @@
+mod DueLists
+mod DueHistories
+mod QuietCalls
+mod ServerLemmas
