@@ -1,4 +1,5 @@
 mod DueLists
 mod DueHistories
 mod QuietCalls
+mod Leading
 mod ServerLemmas

@@ -14,7 +14,9 @@ use Rattle.ra_session.specs.declared.values.Turn.{Turn}
 use Rattle.ra_hub.specs.declared.fault.HubFault.{HubFault}
 use Rattle.ra_hub.specs.HubCalls.{Admits, Attaches, Turns, Tells, Loses, Closes}
 use Rattle.ra_hub.specs.Hubs.{Hub, started}
-use Rattle.ra_hub.specs.Keeping.{Keeps}
+use Rattle.ra_hub.specs.Keeping.{Keeps, Stands, keeper_of}
+use Rattle.ra_hub.specs.declared.plain.PlainHub.{PlainHub}
+use Rattle.ra_keep.specs.declared.keeper.Keeper.{Ghosts}
 use Rattle.ra_hub.specs.Sweeps.{IsSwept}
 
 -- a hub, and the list that its keeper tells, where it tells
@@ -73,3 +75,16 @@ Does (start_inside ask now long short records) before after =
 abbrev pub Runs : List Call → Server → Server → Type 0
 Runs [] before after = before ≡ after
 Runs (call ∷ calls) before after = (between : Server) × Does call before between × Runs calls between after
+
+-- the server that a hub in memory is, where it stands for this hub, over what its keeper tells
+abbrev pub server_of : {R : Type 0} {K : Ghosts R} → (R → Option (List Record)) → PlainHub R K → Hub → Server
+server_of told plain h = record { hub = h; told = told (keeper_of plain) }
+
+-- whichever hub it stood for, it stands for one to which the call leads
+abbrev pub Steps : {R : Type 0} {K : Ghosts R} → (R → Option (List Record)) → Call → PlainHub R K → PlainHub R K → Type 0
+Steps told call before after = (h : Hub) → Stands before h → (k : Hub) × Stands after k × Does call (server_of told before h) (server_of told after k)
+
+-- it stands for a hub that has started from some records, which a start leads to from any server whose keeper was this one
+abbrev pub Begins : {R : Type 0} {K : Ghosts R} → (R → Option (List Record)) → (long short : ℕ) → R → PlainHub R K → Type 0
+Begins told long short keeper plain = (records : List Record) × (k : Hub) × Stands plain k × StartsFrom long short records (server_of told plain k)
+    × ((h : Hub) → Does (start long short records) (record { hub = h; told = told keeper }) (server_of told plain k))

@@ -96,8 +96,9 @@ fn append_line(rt: &HostRuntime, path: &str, wanted: u32) -> Option<String> {
         read_us,
         added_us,
     } = add_timed(rt, &mut keeper, wanted)?;
-    format!(in rt.alloc(); "before={before} added={added} read_us={read_us} added_us={added_us}\n")
-        .ok()
+    format!(in rt.alloc();
+        "before={before} added={added} read_us={read_us} added_us={added_us}\n"
+    ).ok()
 }
 
 /// Copies the log of the file back.
