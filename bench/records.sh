@@ -16,6 +16,7 @@ python3 - "$top/crates/records_bench/out/records_bench" "$work" <<'PYTHON'
 import hashlib, os, re, shutil, sqlite3, subprocess, sys, time
 
 program, work = sys.argv[1:]
+program = shutil.copy(program, os.path.join(work, "program"))
 TABLE = "CREATE TABLE IF NOT EXISTS kept (n INTEGER PRIMARY KEY, kind INTEGER NOT NULL, token TEXT NOT NULL, epoch INTEGER NOT NULL, moment INTEGER NOT NULL) STRICT"
 INSERT = "INSERT INTO kept (n, kind, token, epoch, moment) VALUES (?1, ?2, ?3, ?4, ?5)"
 TOKEN = "0123456789abcdef0123456789abcdef"
