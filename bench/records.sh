@@ -74,10 +74,10 @@ print("%d appends, the best of three: %.0f a second; python's module %.0f a seco
 
 forget("few")
 append("few", 1000)
-few = min(append("few", 1000)[1] for _ in range(5)) / 1000
+few = min(append("few", 200)[1] for _ in range(12)) / 200
 forget("many")
 append("many", 100000)
-many = min(append("many", 1000)[1] for _ in range(5)) / 1000
+many = min(append("many", 200)[1] for _ in range(12)) / 200
 print("an append behind some 1,000 records: %.1f us; behind some 100,000: %.1f us" % (few, many))
 
 start = time.perf_counter()
