@@ -87,7 +87,11 @@ pub(crate) fn both_hear<H: Hub>(hub: &mut H, alloc: Global) -> Option<Vec<u8>> {
     let mut bytes = Vec::new(alloc);
     let called = called_first(hub, alloc, 1, &mut bytes) && called_first(hub, alloc, 2, &mut bytes);
     let told = answer(hub, alloc, 2, 0, 0).is_ok() && answer(hub, alloc, 1, 0, 0).is_ok();
-    let heard =
-        answered_later(hub, alloc, 1, &mut bytes) && answered_later(hub, alloc, 2, &mut bytes);
-    if called && told && heard { Some(bytes) } else { None }
+    let heard = answered_later(hub, alloc, 1, &mut bytes)
+        && answered_later(hub, alloc, 2, &mut bytes);
+    if called && told && heard {
+        Some(bytes)
+    } else {
+        None
+    }
 }
