@@ -154,13 +154,23 @@ fn hops_wait_in_order(rt: HostRuntime) -> Result<(), Fail> {
     Ok(())
 }
 
+/// Whether a call to no window is told so.
+fn finds_no_window(router: &mut Router) -> Result<bool, Fail> {
+    let called = take(router, "t1", 2, Ask::BadTo)?;
+    Ok(has_no_window(&called, 2))
+}
+
+/// Whether a reply of no shape is told that there is no such call.
+fn finds_no_call(router: &mut Router) -> Result<bool, Fail> {
+    let replied = take(router, "t1", 3, Ask::BadReply)?;
+    Ok(has_no_call(&replied, "t1", 3))
+}
+
 #[test]
 fn what_is_no_call_is_refused(rt: HostRuntime) -> Result<(), Fail> {
     let mut router = Router::new(rt.alloc());
-    let called = take(&mut router, "t1", 2, Ask::BadTo)?;
-    assert!(rt; has_no_window(&called, 2));
-    let replied = take(&mut router, "t1", 3, Ask::BadReply)?;
-    assert!(rt; has_no_call(&replied, "t1", 3));
+    assert!(rt; finds_no_window(&mut router)?);
+    assert!(rt; finds_no_call(&mut router)?);
     assert!(rt; is_refused(&mut router, rt.alloc(), "t2", 7)?);
     Ok(())
 }
