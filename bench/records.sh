@@ -61,14 +61,14 @@ def theirs(name, count):
     db.close()
     return took
 
-COUNT = 20000
+COUNT = 5000
 ours, module = [], []
-for _ in range(3):
+for _ in range(9):
     forget("ours")
     forget("module")
     ours.append(append("ours", COUNT)[1] / 1e6)
     module.append(theirs("module", COUNT))
-print("%d appends, the best of three: %.0f a second; python's module %.0f a second" % (COUNT, COUNT / min(ours), COUNT / min(module)))
+print("%d appends, the median of nine in turn: %.0f a second; python's module %.0f a second" % (COUNT, COUNT / sorted(ours)[4], COUNT / sorted(module)[4]))
 
 # ---- behind few and many records
 
