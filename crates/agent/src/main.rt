@@ -3,7 +3,6 @@
 
 use ra_commands::run_plain;
 use ra_ports::{StdSink, StdSource};
-use ra_record_commands::audit;
 use std::env;
 use std::process::ExitCode;
 
@@ -22,12 +21,7 @@ fn words(rt: &(impl env::Env + AllocGlobal)) -> Vec<String> {
 
 fn main(rt: HostRuntime) -> ExitCode {
     let words = words(&rt);
-    let mut sink = StdSink::new(rt.stdout());
-    if let [command, path] = words.as_slice() {
-        if command.as_str() == "audit" {
-            return ExitCode::from(audit(&rt, path.as_str(), &mut sink));
-        }
-    }
     let mut source = StdSource::new(rt.stdin());
+    let mut sink = StdSink::new(rt.stdout());
     ExitCode::from(run_plain(rt.alloc(), &words, &mut source, &mut sink))
 }

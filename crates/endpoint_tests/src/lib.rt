@@ -5,6 +5,7 @@
 mod alarms;
 #[cfg(test)]
 mod bodies;
+mod call_lines;
 #[cfg(test)]
 mod edges;
 #[cfg(test)]

@@ -284,7 +284,7 @@ fn large(alloc: Global) -> Result<Vec<u8>, NoMemory> {
 /// Whether the first job is this message of an extension host.
 fn is_first_job(jobs: &JobList, message: &[u8]) -> bool {
     match jobs.jobs().first() {
-        Some(job) => match &job.work {
+        Some(job) => match job.work() {
             Work::Host { body } => body.as_slice() == message,
             Work::Call { .. } => false,
         },

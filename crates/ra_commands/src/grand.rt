@@ -52,7 +52,7 @@ fn goes_on(effect: &GrandEffect) -> bool
 {
     match effect {
         GrandEffect::Act { act } => !matches!(
-            act,
+            act.act(),
             DialAct::Nothing
                 | DialAct::Drop
                 | DialAct::Rest { until: _ }

@@ -1,6 +1,10 @@
 //! The lines that `grand` prints, each added to a text.
 ghost use Rattle.std.specs.Prelude.{◌≡◌, ◌≢◌, ◌++◌, ℕ, List, OnOk, IfSome, Option, Some, option_map, codes, decimal};
-ghost use Rattle.ra_ipc.specs.View.{id_of};
+ghost use Rattle.ra_dial.specs.View.{ActFits};
+ghost use Rattle.ra_ipc.specs.Packets.{reply_body};
+ghost use Rattle.ra_ipc.specs.View.{id_of, reply};
+ghost use Rattle.ra_session.specs.Hearing.{OutcomeFits};
+ghost use Rattle.ra_values.specs.Spelling.{Fits, levels};
 ghost use Rattle.ra_link_core.specs.Makes.{outcome_of as core_outcome};
 ghost use Rattle.ra_session.specs.View.{outcome_of};
 ghost use Rattle.ra_values.specs.ValueBytes.{value_bytes};
@@ -35,11 +39,9 @@ fn push_word(alloc: Global, text: &mut Vec<u8>, word: &str, bytes: &[u8]) -> Res
 
 /// Adds a word, and the spelling of a value.
 fn push_value(alloc: Global, text: &mut Vec<u8>, word: &str, value: &Value) -> Result<(), NoMemory>
+    requires { Fits levels (tree value.now) }
     ensures { OnOk result (text.new.items ≡ text.old.items ++ (word.now ++ hex_of (value_bytes (tree value.now)))) }
 {
-    if !value.fits() {
-        return Err(NoMemory);
-    }
     let mut bytes = Vec::new(alloc);
     let Ok(()) = append(value, &mut bytes) else {
         return Err(NoMemory);
@@ -48,6 +50,7 @@ fn push_value(alloc: Global, text: &mut Vec<u8>, word: &str, value: &Value) -> R
 }
 
 fn push_answer(alloc: Global, text: &mut Vec<u8>, answer: &Answer) -> Result<(), NoMemory>
+    requires { Fits levels (reply_body (reply answer.now)) }
     ensures { OnOk result (text.new.items ≡ text.old.items ++ outcome_text (outcome_of (Outcome.Answered answer.now))) }
 {
     match answer {
@@ -58,6 +61,7 @@ fn push_answer(alloc: Global, text: &mut Vec<u8>, answer: &Answer) -> Result<(),
 }
 
 fn push_outcome(alloc: Global, text: &mut Vec<u8>, outcome: &Outcome) -> Result<(), NoMemory>
+    requires { OutcomeFits (outcome_of outcome.now) }
     ensures { OnOk result (text.new.items ≡ text.old.items ++ outcome_text (outcome_of outcome.now)) }
 {
     match outcome {
@@ -81,6 +85,7 @@ fn push_settled(
     id: i32,
     outcome: &Outcome,
 ) -> Result<(), NoMemory>
+    requires { OutcomeFits (outcome_of outcome.now) }
     ensures { OnOk result (text.new.items ≡ text.old.items ++ (codes "settled " ++ decimal (id_of id) ++ codes " " ++ outcome_text (outcome_of outcome.now))) }
 {
     push_id(text, "settled ", id)?;
@@ -88,6 +93,7 @@ fn push_settled(
 }
 
 fn push_fired(alloc: Global, text: &mut Vec<u8>, id: i32, body: &Value) -> Result<(), NoMemory>
+    requires { Fits levels (tree body.now) }
     ensures { OnOk result (text.new.items ≡ text.old.items ++ (codes "fired " ++ decimal (id_of id) ++ codes " " ++ hex_of (value_bytes (tree body.now)))) }
 {
     push_id(text, "fired ", id)?;
@@ -121,6 +127,7 @@ fn push_numbered(text: &mut Vec<u8>, word: &str, n: u64) -> Result<(), NoMemory>
 }
 
 fn push_act(alloc: Global, text: &mut Vec<u8>, act: &DialAct) -> Result<(), NoMemory>
+    requires { ActFits act.now }
     ensures { OnOk result (text.new.items ≡ text.old.items ++ act_text (act_of act.now)) }
 {
     match act {
@@ -215,11 +222,11 @@ fn push_effect(
     match effect {
         GrandEffect::Done => push_text(text, "ok"),
         GrandEffect::Made { number } => push_numbered(text, word, *number),
-        GrandEffect::Act { act } => push_act(alloc, text, act),
+        GrandEffect::Act { act } => push_act(alloc, text, act.act()),
         GrandEffect::Moved { bytes, end } => push_moved(alloc, text, bytes.as_slice(), end),
         GrandEffect::Swept { swept } => push_swept(text, *swept),
         GrandEffect::Issued { id } => push_numbered(text, "id ", u64::from(id.cast_unsigned())),
-        GrandEffect::Outcome { outcome } => push_outcome(alloc, text, outcome),
+        GrandEffect::Cancelled => push_text(text, "cancelled"),
     }
 }
 

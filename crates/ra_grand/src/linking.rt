@@ -14,7 +14,7 @@ ghost use Rattle.ra_grand_runs.specs.GrandViews.{Answers};
 use crate::world::{GrandWorld, index_of};
 use ra_base::{Key, NoMemory};
 use ra_dial::DialEvent;
-use ra_grand_runs::{GrandEffect, GrandFault};
+use ra_grand_runs::{GrandEffect, GrandFault, WritableAct};
 use ra_upgrade::laws::answer_is_read;
 
 /// The token of a key is one.
@@ -96,7 +96,9 @@ impl GrandWorld {
                     return Err(GrandFault::NotDialling { client });
                 }
                 match self.clients.dial(n, DialEvent::NoLink, self.moment) {
-                    Ok(act) => Ok(GrandEffect::Act { act }),
+                    Ok(act) => Ok(GrandEffect::Act {
+                        act: WritableAct::new(act),
+                    }),
                     Err(_) => Err(GrandFault::NoMemory),
                 }
             }

@@ -19,7 +19,7 @@ ghost use Rattle.ra_model.specs.Links.{at_number};
 use ra_base::{Message, Moment};
 use ra_dial::DialEvent;
 use ra_grand_clients::Clients;
-use ra_grand_runs::{GrandEffect, GrandFault};
+use ra_grand_runs::{GrandEffect, GrandFault, WritableAct};
 use ra_grand_server::Server;
 use ra_session::SessionFault;
 use ra_upgrade::laws::answer_is_read;
@@ -111,7 +111,9 @@ impl GrandWorld {
         match index_of(client, self.clients.len()) {
             None => Err(GrandFault::NoSuchClient { client }),
             Some(n) => match self.clients.dial(n, event, self.moment) {
-                Ok(act) => Ok(GrandEffect::Act { act }),
+                Ok(act) => Ok(GrandEffect::Act {
+                    act: WritableAct::new(act),
+                }),
                 Err(_) => Err(GrandFault::NoMemory),
             },
         }
@@ -195,7 +197,10 @@ impl GrandWorld {
         match index_of(client, self.clients.len()) {
             None => Err(GrandFault::NoSuchClient { client }),
             Some(n) => match self.clients.cancel(n, id, self.moment) {
-                Ok(outcome) => Ok(GrandEffect::Outcome { outcome }),
+                Ok(outcome) => {
+                    drop(outcome);
+                    Ok(GrandEffect::Cancelled)
+                }
                 Err(fault) => Err(session_fault(fault)),
             },
         }

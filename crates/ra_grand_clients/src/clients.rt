@@ -1,5 +1,6 @@
 //! The clients of a world.
 ghost use Rattle.std.specs.Prelude.{◌≡◌, ◌≢◌, ◌<◌, ◌+◌, ◌++◌, ◌∷◌, [], List, length, IfOk, OnOk, OnErr};
+ghost use Rattle.ra_dial.specs.View.{ActFits};
 ghost use Rattle.ra_dial.specs.Acts.{act_of};
 ghost use Rattle.ra_values.specs.View.{tree};
 ghost use Rattle.ra_ipc.specs.ChannelPairs.{cancelled};
@@ -84,6 +85,7 @@ impl Clients {
     /// The dialer of the client at this place takes an event.
     pub fn dial(&mut self, n: usize, event: DialEvent, now: Moment) -> Result<DialAct, NoMemory>
         requires { n < length self.old }
+        ensures fits { IfOk result ActFits }
         ensures dials { IfOk result (λ act. DialsAt n event now (act_of act) self.old self.new) }
         ensures stays { OnErr result (ClientsStay self.old self.new) }
     {

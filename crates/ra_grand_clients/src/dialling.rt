@@ -1,6 +1,7 @@
 //! What a client does at an event of its dialer.
 ghost use Rattle.std.specs.Prelude.{◌≡◌, OnOk, OnErr, IfOk};
 ghost use Rattle.ra_dial.specs.Acts.{act_of};
+ghost use Rattle.ra_dial.specs.View.{ActFits};
 ghost use Rattle.ra_dial.specs.declared.values.DialEvent.TheVariants as events;
 ghost use Rattle.ra_grand_clients.specs.ClientStates.{Holds, ReadsAnswer, StandsForClient, StaysClient, Dials};
 ghost use Rattle.ra_grand_runs.specs.GrandClients as grand;
@@ -13,6 +14,7 @@ use ra_upgrade::laws::one_answer;
 impl Client {
     /// The dialer takes an event. Nothing waits to be written.
     pub(crate) fn step(&mut self, event: DialEvent, now: Moment) -> Result<DialAct, NoMemory>
+        ensures fits { IfOk result ActFits }
         ensures acts { IfOk result (λ act. (c : grand.Client) → Holds self.old c → ReadsAnswer c → (grand.dials event now c).0 ≡ act_of act) }
         ensures becomes { IfOk result (λ act. (c : grand.Client) → Holds self.old c → ReadsAnswer c
             → StandsForClient self.new (grand.dialled event now c)) }
@@ -52,6 +54,7 @@ impl Client {
 
     /// The dialer takes an event.
     pub(crate) fn dial(&mut self, event: DialEvent, now: Moment) -> Result<DialAct, NoMemory>
+        ensures fits { IfOk result ActFits }
         ensures dials { IfOk result (λ act. Dials self.old self.new event now (act_of act)) }
         ensures stays { OnErr result (StaysClient self.old self.new) }
     {

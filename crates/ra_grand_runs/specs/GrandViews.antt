@@ -3,7 +3,7 @@ use Rattle.std.specs.Prelude.{◌≡◌, ℕ, Option, Some, None, Result, Ok, Er
 use Rattle.ra_ipc.specs.View.{id_of}
 use Rattle.ra_link_core.specs.Makes.{Outcome, goes, over, unkept, short, outcome_of as ends_of}
 use Rattle.ra_session.specs.SessionRefusals.{Refusal as SessionRefusal, IsRefusal}
-use Rattle.ra_session.specs.View.{outcome_of}
+use Rattle.ra_ipc.specs.ChannelPairs.{cancelled}
 use Rattle.ra_dial.specs.Acts.{act_of}
 use Rattle.ra_grand_runs.specs.declared.effect.GrandEffect.{GrandEffect}
 use Rattle.ra_grand_runs.specs.declared.effect.GrandEffect.TheVariants as seen
@@ -31,7 +31,7 @@ effect_of (seen.Act act) = acts (act_of act)
 effect_of (seen.Moved bytes end) = moved_to bytes (ends_of end)
 effect_of (seen.Swept sweep) = swept sweep.expired sweep.short
 effect_of (seen.Issued id) = issued (id_of id)
-effect_of (seen.Outcome result) = outcome (outcome_of result)
+effect_of seen.Cancelled = outcome cancelled
 
 -- the fault is this cause, or memory ran out
 abbrev pub IsCause : GrandFault → Option Refusal → Type 0

@@ -11,6 +11,6 @@ pub mod laws;
 pub mod secret;
 
 pub use counted::Counted;
-pub use effect::GrandEffect;
+pub use effect::{GrandEffect, WritableAct};
 pub use fault::{GrandFault, GrandRunFault};
 pub use secret::copy_secret;

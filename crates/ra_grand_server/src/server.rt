@@ -14,7 +14,7 @@ ghost use Rattle.ra_grand_server.specs.ServerStates.{ServedState, StandsForServe
 
 use crate::served_link::ServedLink;
 use crate::settings::ServerSettings;
-use crate::telling::{settle, tell_work};
+use crate::telling::{settle, tell_job};
 use ra_base::{Moment, NoMemory};
 use ra_grand_runs::Counted;
 use ra_hub::{Hub, JobList, PlainHub, Swept};
@@ -174,7 +174,7 @@ impl Server {
         let Some(job) = self.jobs.jobs().get(at) else {
             return Err(SessionFault::NoMemory);
         };
-        let told = tell_work(self.alloc, &mut self.hub, job, now);
+        let told = tell_job(self.alloc, &mut self.hub, job, now);
         settle(told)?;
         self.jobs.remove(at);
         Ok(())

@@ -9,7 +9,7 @@ ghost use Rattle.ra_grand_server.specs.Tellings.{ToldAt, IsReplacement, Replacem
 ghost use Rattle.ra_grand_runs.specs.Works.{Telling, fired_on, telling};
 
 use ra_app::{App, Done, Shout, Tools, too_large};
-use ra_base::{Message, Moment};
+use ra_base::{Key, Message, Moment};
 use ra_chan_server::Fire;
 use ra_hub::{Hub, HubFault, Job, PlainHub};
 use ra_keep::MemKeeper;
@@ -102,21 +102,22 @@ fn is_too_large(fault: &HubFault) -> bool
     )
 }
 
-/// Tells the session of a job what the tools make of its work. Where that is too large, it is told so instead.
-pub(crate) fn tell_work(
+/// Tells the session of the key what the tools make of its work. Where that is too large, it is told so instead.
+fn tell_work(
     alloc: Global,
     hub: &mut PlainHub<MemKeeper>,
-    job: &Job,
+    key: &Key,
+    work: &Work,
     now: Moment,
 ) -> Result<(), HubFault>
-    ensures told { (h : spec.Hub) (t : Telling) → Stands hub.old h → telling (work_of job.now.work) ≡ Some t → ToldAt h job.now.key t now result (Stands hub.new) }
+    requires { WorkFits work.now }
+    ensures told { (h : spec.Hub) (t : Telling) → Stands hub.old h → telling (work_of work.now) ≡ Some t → ToldAt h key.now t now result (Stands hub.new) }
     ensures seats { Stay (seats_of hub.old) (seats_of hub.new) }
 {
-    let work = job.work();
     let Ok(tell) = tell_for(alloc, work) else {
         return Err(HubFault::NoMemory);
     };
-    let Err(fault) = hub.tell(alloc, job.key(), tell, now) else {
+    let Err(fault) = hub.tell(alloc, key, tell, now) else {
         return Ok(());
     };
     if !is_too_large(&fault) {
@@ -125,8 +126,21 @@ pub(crate) fn tell_work(
     match replacement(alloc, work) {
         Err(_) => Err(HubFault::NoMemory),
         Ok(None) => Err(fault),
-        Ok(Some(tell)) => hub.tell(alloc, job.key(), tell, now),
+        Ok(Some(tell)) => hub.tell(alloc, key, tell, now),
     }
+}
+
+/// Tells the session of a job what the tools make of it.
+pub(crate) fn tell_job(
+    alloc: Global,
+    hub: &mut PlainHub<MemKeeper>,
+    job: &Job,
+    now: Moment,
+) -> Result<(), HubFault>
+    ensures told { (h : spec.Hub) (t : Telling) → Stands hub.old h → telling (work_of job.now.work) ≡ Some t → ToldAt h job.now.key t now result (Stands hub.new) }
+    ensures seats { Stay (seats_of hub.old) (seats_of hub.new) }
+{
+    tell_work(alloc, hub, job.key(), job.work(), now)
 }
 
 fn settle_by(fault: SessionFault) -> Result<(), SessionFault>

@@ -1,3 +1,4 @@
+pub mod CallLines
 pub mod Causes
 pub mod Faults
 pub mod Words

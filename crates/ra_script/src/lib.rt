@@ -4,7 +4,8 @@
 //! A line is read and printed here, and never run.
 #![tactic(auto)]
 
-mod fault;
+pub mod call_line;
+pub mod fault;
 mod generating;
 mod grand_keyword;
 pub mod grand_line;
@@ -20,6 +21,8 @@ mod rows;
 mod script;
 mod words;
 
+pub use call_line::{CallLine, read_call_line};
+pub use fault::LineFault;
 pub use generating::generate;
 pub use grand_line::{GrandEvent, GrandLine};
 pub use grand_reading::parse_grand;

@@ -37,7 +37,7 @@ fn is_text(line: &[u8]) -> bool
 
 /// What a line says, where `first` tells whether it is the first one.
 #[tactic(auto, unfolding(crate::specs::Lines::line_by))]
-fn read_line<L: ReadWords>(alloc: Global, first: bool, line: &[u8]) -> Result<L, LineFault>
+pub fn read_line<L: ReadWords>(alloc: Global, first: bool, line: &[u8]) -> Result<L, LineFault>
     ensures { LineGives result (line_by (L.says first) line.now) }
 {
     if !is_text(line) {

@@ -425,10 +425,8 @@ fn an_acceptance_is_kept_before_it_is_answered(rt: HostRuntime) -> Result<(), Fa
 /// A job of an extension host.
 fn job(alloc: Global, text: &str, body: &[u8]) -> Result<Job, Fail> {
     let body = Message::copy(alloc, body)?;
-    Ok(Job {
-        key: key(text).ok_or("no token")?,
-        work: Work::Host { body },
-    })
+    let key = key(text).ok_or("no token")?;
+    Ok(Job::new(key, Work::Host { body }))
 }
 
 fn put(jobs: &mut JobList, job: Job) -> Result<(), Fail> {
@@ -439,10 +437,14 @@ fn put(jobs: &mut JobList, job: Job) -> Result<(), Fail> {
 
 /// The bytes of a job of an extension host.
 fn says(job: &Job, bytes: &[u8]) -> bool {
-    match &job.work {
+    match job.work() {
         Work::Host { body } => body.as_slice() == bytes,
         Work::Call { .. } => false,
     }
+}
+
+fn is_host(work: &Work) -> bool {
+    matches!(work, Work::Host { body: _ })
 }
 
 #[test]
@@ -456,5 +458,9 @@ fn jobs_are_taken_by_their_place(rt: HostRuntime) -> Result<(), Fail> {
     assert!(rt; jobs.remove(1).is_none());
     let second = jobs.jobs().first().ok_or("no job")?;
     assert!(rt; says(second, b"b"));
+    assert!(rt; first.key().token.as_text() == "t1");
+    let (key, work) = first.into_parts();
+    assert!(rt; key.token.as_text() == "t1");
+    assert!(rt; is_host(&work));
     Ok(())
 }

@@ -15,12 +15,12 @@ pub fn job(alloc: Global, byte: u8) -> Option<Job> {
     let kind = Kind::ExtensionHost;
     let key = Key { kind, token };
     let work = Work::Host { body };
-    Some(Job { key, work })
+    Some(Job::new(key, work))
 }
 
 /// The byte of such a job, or 0.
 pub fn byte_of(job: &Job) -> u8 {
-    match &job.work {
+    match job.work() {
         Work::Host { body } => body.as_slice().first().copied().unwrap_or(0),
         Work::Call { .. } => 0,
     }

@@ -108,7 +108,7 @@ fn through_a_sink<R: Wait, B: QueueName>(
         return false;
     };
     OpenGate.begun(&job);
-    OpenGate.ended(&job.key);
+    OpenGate.ended(job.key());
     let mut sink = QueueJobs::new(rt, queue, seat);
     if sink.reserve().is_err() {
         return false;

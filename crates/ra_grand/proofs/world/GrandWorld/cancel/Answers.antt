@@ -1,8 +1,7 @@
-use Rattle.std.proofs.Common.{arith, ap, w32}
+use Rattle.std.proofs.Common.{arith, refl, w32}
 use Rattle.std.proofs.lemmas.Int.{to_z-of_z}
 use Rattle.ra_ipc.specs.View.{id_of}
 use Rattle.ra_session.specs.declared.values.Outcome.{Outcome}
-use Rattle.ra_grand_runs.specs.GrandEffects.{outcome}
 use Rattle.ra_session.specs.SessionCalls as calls
 use Rattle.ra_session.specs.SessionRefusals as sessions
 use Rattle.ra_grand_runs.specs.GrandRefusals.{if_session}
@@ -21,7 +20,7 @@ returns-in-Ok c =
     λ w stands.
     let made = asked_one c.args.self.now c.cancel.new.self c.args.client c.in-Some.n c.in-Ok.outcome (calls.cancel (id_of c.args.id)) (sessions.cancel_refusal (id_of c.args.id))
     c.in-Some.ensures.0 (omega (arith, c.in-Some.ensures.1, c.len.ensures)) asks w stands in
-    (made.0, ap (λ o. outcome o) c.in-Ok.ensures.outcome, made.1)
+    (made.0, refl, made.1)
 
 pub returns-in-Err : goal.returns-in-Err
 returns-in-Err c =

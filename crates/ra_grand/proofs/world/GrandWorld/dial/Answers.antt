@@ -9,7 +9,8 @@ returns-in-None c =
 
 pub returns-in-Ok : goal.returns-in-Ok
 returns-in-Ok c =
-    dials_one c.answer_is_read.ensures.whole c.answer_is_read.ensures.front c.args.self.now c.dial.new.self c.args.client c.in-Some.n c.args.event c.in-Ok.act c.requires c.in-Some.ensures.0 (omega (arith, c.in-Some.ensures.1, c.len.ensures)) c.in-Ok.ensures.dials
+    rw (c.new.ensures)
+    (dials_one c.answer_is_read.ensures.whole c.answer_is_read.ensures.front c.args.self.now c.dial.new.self c.args.client c.in-Some.n c.args.event c.in-Ok.act c.requires c.in-Some.ensures.0 (omega (arith, c.in-Some.ensures.1, c.len.ensures)) c.in-Ok.ensures.dials)
 
 pub returns-in-Err : goal.returns-in-Err
 returns-in-Err c = λ w stands. (tt, stays_one c.args.self.now c.dial.new.self c.in-Err.ensures.stays w stands)

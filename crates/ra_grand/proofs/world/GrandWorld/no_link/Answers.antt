@@ -18,7 +18,8 @@ returns-then-not-is_calling c =
 pub returns-in-Ok : goal.returns-in-Ok
 returns-in-Ok c =
     let less : c.in-Some.n < length c.args.self.now.clients = omega (arith, c.in-Some.ensures.1, c.len.ensures) in
+    rw (c.new.ensures) (
     λ w stands.
     let done = dials_one c.answer_is_read.ensures.whole c.answer_is_read.ensures.front c.args.self.now c.dial.new.self c.args.client c.in-Some.n events.NoLink c.in-Ok.act (tt {0}) c.in-Some.ensures.0 less
     c.in-Ok.ensures.dials w stands in
-    (waits c.args.self.now c.args.client c.in-Some.n c.is_calling.result c.in-Some.ensures.0 less c.is_calling.ensures c.if-not-is_calling.false w stands, done.1, done.2)
+    (waits c.args.self.now c.args.client c.in-Some.n c.is_calling.result c.in-Some.ensures.0 less c.is_calling.ensures c.if-not-is_calling.false w stands, done.1, done.2))
