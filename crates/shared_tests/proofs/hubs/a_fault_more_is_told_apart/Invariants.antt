@@ -1,4 +1,0 @@
-use Rattle.shared_tests.proofs.hubs.a_fault_more_is_told_apart.Given as goal
-
-abbrev pub ghosts-faults_differ-L-Ledger : goal.ghosts-faults_differ-L-Ledger
-ghosts-faults_differ-L-Ledger g a = record { name = a.entries.name; parts = a.entries.parts }

@@ -1,4 +1,0 @@
-use Rattle.shared_tests.proofs.hubs.a_handle_is_missing.Given as goal
-
-abbrev pub ghosts-one_is_missing-L-Ledger : goal.ghosts-one_is_missing-L-Ledger
-ghosts-one_is_missing-L-Ledger g a = record { name = a.entries.name; parts = a.entries.parts }

@@ -1,4 +1,0 @@
-use Rattle.shared_tests.proofs.hubs.an_answer_that_is_not_so_is_told_apart.Given as goal
-
-abbrev pub ghosts-untrue_answer-L-Ledger : goal.ghosts-untrue_answer-L-Ledger
-ghosts-untrue_answer-L-Ledger g a = record { name = a.entries.name; parts = a.entries.parts }
